@@ -1,0 +1,76 @@
+-- Numbers as bytes: one undoes the other, and a number of m + n bytes is put together from one of m and one of n, at every width.
+-- Assumes nothing.
+use Prim.Native.Nat.{ℕ, zero, suc, _+_, _*_, _%_, _^_, _<_, _≤_}
+use mathlib.Core.Path.{_≡_, refl, sym, ap, _∙_}
+use mathlib.Core.Bool.{Bool, true, false, not}
+use mathlib.Core.List.{List, [], _∷_, _++_}
+use native.Mathlib.Nat.{lt-of-lt-of-le, add-assoc, add-mul, mul-assoc}
+use native.Mathlib.Omega.{arith}
+use borrow.Author.Tests.{le-leb, leb-true, not-true, not-false}
+use lib.Bits.{bitOr}
+use lib.Dec.{leb}
+use lib.ListN.{length, getD, take, drop, length-append, length-drop, length-replicate}
+use lib.Pow.{pow-add, pow-mono, shl-lt}
+use lib.Seq.{length-take-le, take-add, drop-drop, drop-cons}
+use Rattle.wire.specs.Bits.{width, pack, unpack, Fit}
+use Rattle.wire.specs.Numbers.{octets, number, bytes, part, numberAt, numberOr0, pickNumber}
+use Rattle.wire.proofs.Bits.{joined, length-unpack, pack-lt, unpack-pack, pack-unpack}
+
+width-octets : (k : ℕ) → width (octets k) ≡ 8 * k
+width-octets zero = refl
+width-octets (suc k) = rw (width-octets k) (omega arith)
+
+pub length-bytes : (k n : ℕ) → length (bytes k n) ≡ k
+length-bytes k n = length-unpack (octets k) n ∙ length-replicate k 8
+
+-- a number that k bytes hold, out of its bytes
+pub number-of : (k n : ℕ) → n < 2 ^ (8 * k) → number (bytes k n) ≡ n
+number-of k n h = rw (length-bytes k n) (pack-unpack (octets k) n (rw (width-octets k) h))
+
+fit-octets : (bs : List ℕ) → ((i : ℕ) → getD bs i 0 < 256) → Fit (octets (length bs)) bs
+fit-octets [] h = tt
+fit-octets (b ∷ bs) h = (h 0, fit-octets bs (λ i. h (suc i)))
+
+-- bytes spell a number that they hold
+pub number-lt : (bs : List ℕ) → ((i : ℕ) → getD bs i 0 < 256) → number bs < 2 ^ (8 * length bs)
+number-lt bs h = rw (← width-octets (length bs)) (pack-lt (octets (length bs)) bs (fit-octets bs h))
+
+-- bytes, out of the number that they spell
+pub bytes-number : (bs : List ℕ) → ((i : ℕ) → getD bs i 0 < 256) → bytes (length bs) (number bs) ≡ bs
+bytes-number bs h = unpack-pack (octets (length bs)) bs (fit-octets bs h)
+
+-- ---- reading
+
+number-append : (a b : List ℕ) → number (a ++ b) ≡ number a * 2 ^ (8 * length b) + number b
+number-append [] b = omega arith
+number-append (x ∷ a) b =
+    let e : 8 * (length a + length b) ≡ 8 * length a + 8 * length b = omega arith in
+    rw (number-append a b, width-octets (length (a ++ b)), width-octets (length a), length-append a b, e, pow-add 2 (8 * length a) (8 * length b)) (rw (add-mul, mul-assoc, add-assoc) refl)
+
+-- what `holds` answered of the k bytes from place at on, and whether its answer was no
+module _ (at k : ℕ) (s : List ℕ) {r : Bool} (held : r ≡ leb (at + k) (length s)) where
+  pub missing : not r ≡ true → 0 ≡ numberOr0 at k s
+  missing e = rw (sym held ∙ not-true r e)
+
+  pub present : not r ≡ false → at + k ≤ length s
+  present e = leb-true (at + k) (length s) (sym held ∙ not-false r e)
+
+-- what is there is read
+pub there : (at k : ℕ) (s : List ℕ) → at + k ≤ length s → numberOr0 at k s ≡ numberAt at k s
+there at k s h = rw (le-leb (at + k) (length s) h)
+
+pub byte-there : (at : ℕ) (s : List ℕ) → at + 1 ≤ length s → getD s at 0 ≡ numberOr0 at 1 s
+byte-there at s h = rw (there at 1 s h, drop-cons s at 0 (omega arith)) (omega arith)
+
+-- the number in m + n bytes
+split : (at m n : ℕ) (s : List ℕ) → at + (m + n) ≤ length s → numberAt at (m + n) s ≡ numberAt at m s * 2 ^ (8 * n) + numberAt (at + m) n s
+split at m n s h =
+    let l : length (take n (drop (at + m) s)) ≡ n = length-take-le n (drop (at + m) s) (rw (length-drop (at + m) s) (omega arith)) in
+    rw (take-add m n (drop at s), drop-drop m at s, number-append (take m (drop at s)) (take n (drop (at + m) s)), l) refl
+
+-- The fact over the width: a number of m bytes beside one of n bytes, put together at w bits by a shift and an or, is the number in the m + n bytes.
+pub beside : (at m n w : ℕ) (s : List ℕ) {hi lo : ℕ} → at + (m + n) ≤ length s → 8 * m + 8 * n ≤ w → hi ≡ numberOr0 at m s → lo ≡ numberOr0 (at + m) n s
+    → hi < 2 ^ (8 * m) → lo < 2 ^ (8 * n) → bitOr ((hi * 2 ^ (8 * n)) % 2 ^ w) lo ≡ numberOr0 at (m + n) s
+beside at m n w s {hi} {lo} h fit eh el hh hl =
+    joined hi (8 * n) w hl (lt-of-lt-of-le (shl-lt (8 * m) (8 * n) hh) (pow-mono fit))
+    ∙ rw (there at (m + n) s h, split at m n s h, eh, el, there at m s (omega arith), there (at + m) n s (omega arith)) refl

@@ -1,0 +1,35 @@
+-- Numbers on the wire are big-endian (document 01, Frame layout): rows of fields of eight bits.
+use Prim.Native.Nat.{ℕ, _+_}
+use mathlib.Core.Bool.{Bool, true, false}
+use mathlib.Core.List.{List}
+use lib.ListN.{length, take, drop, replicate}
+use lib.Dec.{leb}
+use Rattle.wire.specs.Bits.{pack, unpack}
+
+-- the row of k bytes
+abbrev pub octets : ℕ → List ℕ
+octets k = replicate k 8
+
+-- the number that bytes spell, the first byte the most significant
+abbrev pub number : List ℕ → ℕ
+number bs = pack (octets (length bs)) bs
+
+-- the lowest k bytes of n
+abbrev pub bytes : ℕ → ℕ → List ℕ
+bytes k n = unpack (octets k) n
+
+-- the k bytes of bs from place at on
+abbrev pub part : ℕ → ℕ → List ℕ → List ℕ
+part at k bs = take k (drop at bs)
+
+-- the number in them
+abbrev pub numberAt : ℕ → ℕ → List ℕ → ℕ
+numberAt at k bs = number (part at k bs)
+
+abbrev pub pickNumber : Bool → ℕ → ℕ → ℕ
+pickNumber true a b = a
+pickNumber false a b = b
+
+-- the same, and 0 where bs ends before them
+abbrev pub numberOr0 : ℕ → ℕ → List ℕ → ℕ
+numberOr0 at k bs = pickNumber (leb (at + k) (length bs)) (numberAt at k bs) 0
