@@ -2,7 +2,7 @@
 use Prim.Native.Nat.{ℕ, zero, suc, _+_, _-_, _*_, _/_, _%_, _^_, _<_}
 use mathlib.Core.Path.{_≡_, refl, sym, ap, _∙_}
 use mathlib.Core.List.{List, [], _∷_}
-use native.Mathlib.Nat.{mod-eq-of-lt, mod-one}
+use native.Mathlib.Nat.{mod-eq-of-lt, mod-one, div-one}
 use native.Mathlib.Omega.{arith}
 use lib.Arith.{digits-lt}
 use lib.Bits.{bitOr, bitAnd, or-shifted, and-mask}
@@ -40,7 +40,8 @@ mask7 n = and-mask n 7
 pub mask12 : (n : ℕ) → bitAnd n 0xfff ≡ n % 4096
 mask12 n = and-mask n 12
 
-pub ruleset masks = (mask1, mask2, mask3, mask4, mask6, mask7, mask12)
+-- with `div-one` for the lowest field of a row, which is not shifted
+pub ruleset masks = (mask1, mask2, mask3, mask4, mask6, mask7, mask12, div-one)
 
 -- ---- rows
 

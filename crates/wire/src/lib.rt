@@ -19,6 +19,15 @@ fn holds(len: usize, at: usize, k: usize) -> bool
     true
 }
 
+pub fn byte(s: &[u8], at: usize) -> u8
+    ensures { λ r. ⌜ r ≡ numberOr0 at 1 (now (s .entry)) ⌝ }
+{
+    if !holds(s.len(), at, 1) {
+        return 0;
+    }
+    s[at]
+}
+
 pub fn be16(s: &[u8], at: usize) -> u16
     ensures { λ r. ⌜ r ≡ numberOr0 at 2 (now (s .entry)) ⌝ }
 {

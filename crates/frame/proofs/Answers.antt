@@ -1,0 +1,78 @@
+-- What the answer of `read` tells of the frame. Assumes nothing.
+use Prim.Native.Nat.{ℕ, zero, suc, _+_, _≤_}
+use mathlib.Core.Path.{_≡_, refl, sym, ap, _∙_}
+use mathlib.Core.List.{List, []}
+use lib.ListN.{length}
+use Rattle.frame.specs.declared.refusal.Refusal.{Refusal}
+use Rattle.frame.specs.declared.layout.Fields.{Fields}
+use Rattle.frame.specs.declared.Reading.{Reading}
+use Rattle.frame.specs.declared.Reading.the-variants.{Accepted, Refused}
+use Rattle.frame.specs.declared.layout.Header.{Header}
+use Rattle.frame.specs.declared.layout.Cip.{Cip}
+use Rattle.frame.specs.declared.checks.Verdict.{Verdict}
+use Rattle.frame.specs.declared.checks.Verdict.the-variants as verdict
+use Rattle.frame.specs.Layout.{headerOf, cipOf, fieldsOf}
+use Rattle.frame.specs.Refusals.{numberOf, firstOf}
+use Rattle.frame.specs.Checks.{lengthChecks, headerChecks, blockChecks, refusal}
+use Rattle.frame.specs.Verdicts.{verdictNumber}
+use Rattle.frame.specs.Reading.{Answer, noFields, answer, reading, told}
+use Rattle.frame.proofs.First.{positive, stop, go}
+use Rattle.frame.proofs.Groups.{read-then, accepted-room}
+
+number-of-answer : (n : ℕ) (f : Fields) → answer n f .number ≡ n
+number-of-answer zero f = refl
+number-of-answer (suc n) f = refl
+
+module _ (frame : List ℕ) where
+  -- from the rules to the answer
+  pub refuses : (r : Refusal) → numberOf r ≡ refusal frame → told (Refused r) ≡ reading frame
+  unfolding reading
+  refuses r e = let p = positive r in rw (← e, p .1)
+
+  pub accepts : {f : Fields} → refusal frame ≡ 0 → f ≡ fieldsOf frame → told (Accepted f) ≡ reading frame
+  unfolding reading
+  accepts e q = rw (e, q)
+
+  -- the verdicts of the three groups of checks, one after another
+  module _ {u : Verdict} (lengths : verdictNumber u ≡ firstOf (lengthChecks (length frame))) where
+    pub length-refuses : {r : Refusal} → u ≡ verdict.Refused r → told (Refused r) ≡ reading frame
+    unfolding refusal
+    length-refuses {r} z = refuses r (rw (read-then (length frame) (fieldsOf frame)) (stop u r _ _ lengths z))
+
+    module _ (zu : u ≡ verdict.Passed) {h : Header} (hs : h ≡ headerOf frame) {v : Verdict} (headers : verdictNumber v ≡ firstOf (headerChecks (length frame) h)) where
+      pub header-refuses : {r : Refusal} → v ≡ verdict.Refused r → told (Refused r) ≡ reading frame
+      unfolding refusal fieldsOf
+      header-refuses {r} z = refuses r (rw (read-then (length frame) (fieldsOf frame), ← hs) (go u _ _ _ lengths zu (stop v r _ _ headers z)))
+
+      module _ (zv : v ≡ verdict.Passed) {p : Cip} (ps : p ≡ cipOf frame) where
+        whole : {k : ℕ} → k ≡ firstOf (blockChecks (h .stream) p) → k ≡ refusal frame
+        unfolding refusal fieldsOf
+        whole blocks = rw (read-then (length frame) (fieldsOf frame), ← hs, ← ps) (go u _ _ _ lengths zu (go v _ _ _ headers zv blocks))
+
+        module _ {w : Verdict} (blocks : verdictNumber w ≡ firstOf (blockChecks (h .stream) p)) where
+          pub block-refuses : {r : Refusal} → w ≡ verdict.Refused r → told (Refused r) ≡ reading frame
+          block-refuses {r} z = refuses r (ap verdictNumber (sym z) ∙ whole blocks)
+
+          pub all-accept : w ≡ verdict.Passed → told (Accepted (record { header = h; cip = p })) ≡ reading frame
+          unfolding fieldsOf
+          all-accept z = accepts (sym (whole blocks) ∙ ap verdictNumber z) (rw (hs, ps))
+
+  -- and back
+  module _ {x : Reading} (e : told x ≡ reading frame) where
+    pub refused-number : {r : Refusal} → x ≡ Refused r → refusal frame ≡ numberOf r
+    unfolding reading
+    refused-number z = sym (number-of-answer (refusal frame) (fieldsOf frame)) ∙ ap (λ (a : Answer). a .number) (sym e) ∙ rw z
+
+    module _ {f : Fields} (z : x ≡ Accepted f) where
+      pub accepted-number : refusal frame ≡ 0
+      unfolding reading
+      accepted-number = sym (number-of-answer (refusal frame) (fieldsOf frame)) ∙ ap (λ (a : Answer). a .number) (sym e) ∙ rw z
+
+      pub accepted-fields : f ≡ fieldsOf frame
+      unfolding reading
+      accepted-fields = ap (λ (y : Reading). told y .fields) (sym z) ∙ ap (λ (a : Answer). a .fields) e ∙ rw accepted-number
+
+      -- the data of an accepted frame fits it
+      pub room : (8 ≤ f .header .stream .«data_length») × (f .header .stream .«data_length» + 42 ≤ length frame)
+      unfolding refusal
+      room = rw accepted-fields (accepted-room (length frame) (fieldsOf frame) accepted-number)

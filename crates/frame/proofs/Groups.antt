@@ -1,0 +1,59 @@
+-- The groups of a frame's checks, one after another, and what holds where none applies. Assumes nothing.
+use Prim.Native.Nat.{ℕ, zero, suc, _+_, _-_, _*_, _≤_, _<_}
+use mathlib.Core.Path.{_≡_, refl, sym, ap, _∙_}
+use mathlib.Core.List.{List, _++_}
+use native.Mathlib.Omega.{arith}
+use borrow.Author.Tests.{ltb-false}
+use lib.ListN.{length}
+use Rattle.frame.specs.declared.layout.Stream.{Stream}
+use Rattle.frame.specs.declared.layout.Header.{Header}
+use Rattle.frame.specs.declared.layout.Fields.{Fields}
+use Rattle.frame.specs.Refusals.{firstOf}
+use Rattle.frame.specs.Checks.{quadlets, blockBytes, lengthChecks, ethernetChecks, avtpChecks, addressChecks, streamChecks, blockChecks, headerChecks, readChecks}
+use Rattle.frame.proofs.First.{clear, orElse, then, both}
+
+pub header-then : (n : ℕ) (h : Header) → firstOf (headerChecks n h) ≡
+    orElse (firstOf (ethernetChecks (h .ethernet))) (orElse (firstOf (avtpChecks (h .avtp))) (orElse (firstOf (addressChecks (h .ethernet))) (firstOf (streamChecks n (h .stream)))))
+unfolding headerChecks ethernetChecks avtpChecks addressChecks
+header-then n h = then (ethernetChecks (h .ethernet)) _ tt ∙ rw (then (avtpChecks (h .avtp)) (addressChecks (h .ethernet) ++ streamChecks n (h .stream)) tt, then (addressChecks (h .ethernet)) (streamChecks n (h .stream)) tt) refl
+
+pub read-then : (n : ℕ) (f : Fields) → firstOf (readChecks n f) ≡
+    orElse (firstOf (lengthChecks n)) (orElse (firstOf (headerChecks n (f .header))) (firstOf (blockChecks (f .header .stream) (f .cip))))
+unfolding readChecks lengthChecks headerChecks ethernetChecks avtpChecks addressChecks streamChecks
+read-then n f = then (lengthChecks n) _ tt ∙ rw (then (headerChecks n (f .header)) (blockChecks (f .header .stream) (f .cip)) tt) refl
+
+pub long-enough : (n : ℕ) → firstOf (lengthChecks n) ≡ 0 → 42 ≤ n
+unfolding lengthChecks
+long-enough n e = ltb-false n 42 (clear (lengthChecks n) tt e .0)
+
+stream-room : (n : ℕ) (s : Stream) → 42 ≤ n → firstOf (streamChecks n s) ≡ 0 → (8 ≤ s .«data_length») × (s .«data_length» + 42 ≤ n)
+unfolding streamChecks
+stream-room n s h e =
+    let f = clear (streamChecks n s) tt e in
+    let p : s .«data_length» ≤ n - 42 = ltb-false _ _ (f .0) in
+    let q : 8 ≤ s .«data_length» = ltb-false _ _ (f .1 .1 .0) in
+    omega arith
+
+-- past the checks of the header its data fits the frame
+pub header-room : (n : ℕ) (h : Header) → 42 ≤ n → firstOf (headerChecks n h) ≡ 0 → (8 ≤ h .stream .«data_length») × (h .stream .«data_length» + 42 ≤ n)
+header-room n h l e =
+    let p = both _ _ (sym (header-then n h) ∙ e) in
+    let q = both _ _ (p .1) in
+    stream-room n (h .stream) l (both _ _ (q .1) .1)
+
+-- and so does the data of an accepted frame
+pub accepted-room : (n : ℕ) (f : Fields) → firstOf (readChecks n f) ≡ 0 → (8 ≤ f .header .stream .«data_length») × (f .header .stream .«data_length» + 42 ≤ n)
+accepted-room n f e =
+    let p = both _ _ (sym (read-then n f) ∙ e) in
+    header-room n (f .header) (long-enough n (p .0)) (both _ _ (p .1) .0)
+
+-- ---- blocks
+
+pub quadlets-some : (dbs : ℕ) → (dbs ≡ 0 → ⊥) → dbs ≡ quadlets dbs
+quadlets-some zero h = absurd (h refl)
+quadlets-some (suc n) h = refl
+
+pub block-some : (dbs : ℕ) → 0 < blockBytes dbs
+unfolding blockBytes
+block-some zero = omega arith
+block-some (suc n) = omega arith

@@ -1,0 +1,5 @@
+pub mod Layout
+pub mod Refusals
+pub mod Checks
+pub mod Reading
+pub mod Verdicts

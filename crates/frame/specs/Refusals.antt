@@ -1,0 +1,46 @@
+-- The numbers answered (document 01, Numbers answered).
+use Prim.Native.Nat.{ℕ}
+use mathlib.Core.Bool.{Bool}
+use mathlib.Core.List.{List, [], _∷_}
+use Rattle.wire.specs.Numbers.{pickNumber}
+use Rattle.frame.specs.declared.refusal.Refusal.{Refusal}
+use Rattle.frame.specs.declared.refusal.Refusal.the-variants.{FrameTooShort, FrameTooLong, WrongTpid, CfiSet, WrongEthertype, ControlAvtpdu, WrongSubtype, WrongVersion, NoStreamId, WrongAddress, DataBeyondFrame, WrongTag, NoCipHeader, PartialBlock, NotAdmitted, TableTooLong, AlreadyAdmitted, TableFull, NothingToRemove, WriteWrongAddress, WriteFieldTooWide, WritePartialBlock, WritePayloadTooLong, WriteOutputTooShort, RecordCut, RecordLength, RecordKind}
+
+abbrev pub numberOf : Refusal → ℕ
+numberOf FrameTooShort = 1
+numberOf FrameTooLong = 2
+numberOf WrongTpid = 3
+numberOf CfiSet = 4
+numberOf WrongEthertype = 5
+numberOf ControlAvtpdu = 6
+numberOf WrongSubtype = 7
+numberOf WrongVersion = 8
+numberOf NoStreamId = 9
+numberOf WrongAddress = 10
+numberOf DataBeyondFrame = 11
+numberOf WrongTag = 12
+numberOf NoCipHeader = 13
+numberOf PartialBlock = 14
+numberOf NotAdmitted = 15
+numberOf TableTooLong = 20
+numberOf AlreadyAdmitted = 21
+numberOf TableFull = 22
+numberOf NothingToRemove = 23
+numberOf WriteWrongAddress = 31
+numberOf WriteFieldTooWide = 32
+numberOf WritePartialBlock = 33
+numberOf WritePayloadTooLong = 34
+numberOf WriteOutputTooShort = 35
+numberOf RecordCut = 41
+numberOf RecordLength = 42
+numberOf RecordKind = 43
+
+-- A check is a condition and the number that it answers where it holds.
+infix 68 _answers_
+pub data Check : Type 0 where
+  _answers_ : Bool → ℕ → Check
+
+-- the number of the first check that applies; 0 where none does
+unfoldable pub firstOf : List Check → ℕ
+firstOf [] = 0
+firstOf ((b answers n) ∷ rest) = pickNumber b n (firstOf rest)

@@ -1,0 +1,62 @@
+// Ethernet frames with an AVTPDU of IEEE 1722-2011 and an IEC 61883 header: any bytes in, document 01's fields and payload or its
+// first fitting number out.
+pub mod checks;
+pub mod layout;
+pub mod refusal;
+
+use checks::Verdict;
+use layout::Fields;
+use refusal::Refusal;
+ghost use mathlib.Core.Path.{_≡_};
+ghost use Rattle.frame.specs.Reading.{reading, told, payloadOf, blocksOf, firstQuadlet};
+
+pub enum Reading {
+    Accepted(Fields),
+    Refused(Refusal),
+}
+
+pub fn read(frame: &[u8]) -> Reading
+    ensures { λ r. ⌜ told r ≡ reading (now (frame .entry)) ⌝ }
+{
+    let n = frame.len();
+    let by_length = checks::check_length(n);
+    if let Verdict::Refused(refusal) = by_length {
+        return Reading::Refused(refusal);
+    }
+    let header = layout::read_header(frame);
+    let by_header = checks::check_header(n, header);
+    if let Verdict::Refused(refusal) = by_header {
+        return Reading::Refused(refusal);
+    }
+    let cip = layout::read_cip(frame);
+    let by_blocks = checks::check_blocks(header.stream, cip);
+    if let Verdict::Refused(refusal) = by_blocks {
+        return Reading::Refused(refusal);
+    }
+    Reading::Accepted(Fields { header, cip })
+}
+
+// The part of the frame that is its payload; empty where the frame is refused.
+pub fn payload(frame: &[u8]) -> &[u8]
+    ensures { λ r. ⌜ now r ≡ payloadOf (now (frame .entry)) ⌝ }
+{
+    let Reading::Accepted(fields) = read(frame) else {
+        return &frame[..0];
+    };
+    let end = 42 + fields.header.stream.data_length as usize;
+    &frame[50..end]
+}
+
+// How many blocks a payload has.
+pub fn blocks(payload: &[u8], dbs: u8) -> usize
+    ensures { λ r. ⌜ r ≡ blocksOf (now (payload .entry)) dbs ⌝ }
+{
+    payload.len() / checks::block_bytes(dbs)
+}
+
+// The stamp of a source packet header that opens a payload: its first four bytes, 0 where it has fewer.
+pub fn first_quadlet(payload: &[u8]) -> u32
+    ensures { λ r. ⌜ r ≡ firstQuadlet (now (payload .entry)) ⌝ }
+{
+    wire::be32(payload, 0)
+}

@@ -1,0 +1,71 @@
+// Every reason for which a call of the analyser answers a number of document 01.
+ghost use mathlib.Core.Path.{_≡_};
+ghost use Rattle.frame.specs.Refusals.{numberOf};
+
+pub enum Refusal {
+    // Reading a frame: 1 to 15.
+    FrameTooShort,
+    FrameTooLong,
+    WrongTpid,
+    CfiSet,
+    WrongEthertype,
+    ControlAvtpdu,
+    WrongSubtype,
+    WrongVersion,
+    NoStreamId,
+    WrongAddress,
+    DataBeyondFrame,
+    WrongTag,
+    NoCipHeader,
+    PartialBlock,
+    NotAdmitted,
+    // Tables: 20 to 23.
+    TableTooLong,
+    AlreadyAdmitted,
+    TableFull,
+    NothingToRemove,
+    // Writing a frame: 31 to 35.
+    WriteWrongAddress,
+    WriteFieldTooWide,
+    WritePartialBlock,
+    WritePayloadTooLong,
+    WriteOutputTooShort,
+    // Captures: 41 to 43.
+    RecordCut,
+    RecordLength,
+    RecordKind,
+}
+
+pub fn number(refusal: Refusal) -> u8
+    ensures { λ r. ⌜ r ≡ numberOf refusal ⌝ }
+{
+    match refusal {
+        Refusal::FrameTooShort => 1,
+        Refusal::FrameTooLong => 2,
+        Refusal::WrongTpid => 3,
+        Refusal::CfiSet => 4,
+        Refusal::WrongEthertype => 5,
+        Refusal::ControlAvtpdu => 6,
+        Refusal::WrongSubtype => 7,
+        Refusal::WrongVersion => 8,
+        Refusal::NoStreamId => 9,
+        Refusal::WrongAddress => 10,
+        Refusal::DataBeyondFrame => 11,
+        Refusal::WrongTag => 12,
+        Refusal::NoCipHeader => 13,
+        Refusal::PartialBlock => 14,
+        Refusal::NotAdmitted => 15,
+        Refusal::TableTooLong => 20,
+        Refusal::AlreadyAdmitted => 21,
+        Refusal::TableFull => 22,
+        Refusal::NothingToRemove => 23,
+        Refusal::WriteWrongAddress => 31,
+        Refusal::WriteFieldTooWide => 32,
+        Refusal::WritePartialBlock => 33,
+        Refusal::WritePayloadTooLong => 34,
+        Refusal::WriteOutputTooShort => 35,
+        Refusal::RecordCut => 41,
+        Refusal::RecordLength => 42,
+        Refusal::RecordKind => 43,
+    }
+}
