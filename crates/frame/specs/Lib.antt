@@ -3,3 +3,4 @@ pub mod Refusals
 pub mod Checks
 pub mod Reading
 pub mod Verdicts
+pub mod Ignored

@@ -9,6 +9,7 @@ use layout::Fields;
 use refusal::Refusal;
 ghost use mathlib.Core.Path.{_≡_};
 ghost use Rattle.frame.specs.Reading.{reading, told, payloadOf, blocksOf, firstQuadlet};
+ghost use Rattle.frame.specs.Ignored.{IgnoredBits};
 
 pub enum Reading {
     Accepted(Fields),
@@ -60,3 +61,8 @@ pub fn first_quadlet(payload: &[u8]) -> u32
 {
     wire::be32(payload, 0)
 }
+
+// What a reader ignores changes no answer.
+fn ignored_bits()
+    ensures { λ _. ⌜ IgnoredBits ⌝ }
+{}

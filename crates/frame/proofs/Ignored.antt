@@ -1,0 +1,233 @@
+-- Frames that differ only in ignored bits and after the payload are answered the same. Assumes nothing.
+use Prim.Native.Nat.{ℕ, zero, suc, _+_, _-_, _*_, _/_, _%_, _^_, _<_, _≤_}
+use mathlib.Core.Path.{_≡_, refl, sym, ap, _∙_}
+use mathlib.Core.Logic.{⊎-elim}
+use mathlib.Core.List.{List, [], _∷_, _++_}
+use native.Mathlib.Nat.{mod-eq-of-lt, mod-lt}
+use native.Mathlib.Omega.{arith}
+use borrow.Author.Tests.{le-ltb}
+use lib.Bits.{bitAnd, and-mask, and-shr, and-mod}
+use lib.Dec.{lit≤}
+use lib.ListN.{length, getD, take, drop, replicate, length-take, length-drop}
+use lib.Pow.{pow-pos}
+use lib.Seq.{getD-drop, getD-take}
+use Rattle.wire.specs.Bits.{bits, flag}
+use Rattle.wire.specs.Numbers.{part, number, numberAt}
+use Rattle.frame.specs.Layout.{ethernetOf, avtpOf, streamOf, headerOf, cipOf, fieldsOf}
+use Rattle.frame.specs.declared.layout.Fields.{Fields}
+use Rattle.frame.specs.Refusals.{firstOf}
+use Rattle.frame.specs.Checks.{lengthChecks, streamChecks, headerChecks, readChecks, refusal}
+use Rattle.frame.specs.Reading.{reading, payloadOfNumber, payloadOf}
+use Rattle.frame.specs.Ignored.{regarded, through, Whole, Alike, Bytes, IgnoredBits}
+
+-- ---- masks
+
+-- a field that a mask leaves whole is the same through the mask
+through-mask : (s w m n : ℕ) → bits s w m ≡ 2 ^ w - 1 → bits s w (bitAnd n m) ≡ bits s w n
+through-mask s w m n e =
+    rw (and-shr n m s, and-mod (n / 2 ^ s) (m / 2 ^ s) w, e, and-mask (n / 2 ^ s % 2 ^ w) w) (mod-eq-of-lt (mod-lt (n / 2 ^ s) (pow-pos w)))
+
+take-through : (k : ℕ) (ms bs : List ℕ) → take k (through ms bs) ≡ through (take k ms) (take k bs)
+take-through zero ms bs = refl
+take-through (suc k) [] bs = refl
+take-through (suc k) (m ∷ ms) [] = refl
+take-through (suc k) (m ∷ ms) (b ∷ bs) = ap (λ (l : List ℕ). bitAnd b m ∷ l) (take-through k ms bs)
+
+through-nil : (ms : List ℕ) → through ms [] ≡ []
+through-nil [] = refl
+through-nil (m ∷ ms) = refl
+
+drop-through : (k : ℕ) (ms bs : List ℕ) → drop k (through ms bs) ≡ through (drop k ms) (drop k bs)
+drop-through zero ms bs = refl
+drop-through (suc k) [] bs = refl
+drop-through (suc k) (m ∷ ms) [] = sym (through-nil (drop k ms))
+drop-through (suc k) (m ∷ ms) (b ∷ bs) = drop-through k ms bs
+
+part-through : (at k : ℕ) (ms bs : List ℕ) → part at k (through ms bs) ≡ through (part at k ms) (part at k bs)
+part-through at k ms bs = ap (take k) (drop-through at ms bs) ∙ take-through k (drop at ms) (drop at bs)
+
+-- bytes through masks that leave them whole
+through-all : (k : ℕ) (bs : List ℕ) → Bytes bs → length bs ≤ k → through (replicate k 255) bs ≡ bs
+through-all zero [] h l = refl
+through-all zero (b ∷ bs) h l = absurd (omega arith)
+through-all (suc k) [] h l = refl
+through-all (suc k) (b ∷ bs) h l = λ i. (and-mask b 8 ∙ mod-eq-of-lt (h 0)) i ∷ through-all k bs (λ j. h (suc j)) (omega arith) i
+
+bytes-drop : (n : ℕ) (bs : List ℕ) → Bytes bs → Bytes (drop n bs)
+bytes-drop n bs h i = rw (getD-drop n bs i 0) (h (n + i))
+
+bytes-take : (n : ℕ) (bs : List ℕ) → Bytes bs → Bytes (take n bs)
+bytes-take zero bs h i = omega arith
+bytes-take (suc n) [] h i = omega arith
+bytes-take (suc n) (b ∷ bs) h zero = h 0
+bytes-take (suc n) (b ∷ bs) h (suc i) = bytes-take n bs (λ j. h (suc j)) i
+
+part-bytes : (at k : ℕ) (bs : List ℕ) → Bytes bs → Bytes (part at k bs)
+part-bytes at k bs h = bytes-take k (drop at bs) (bytes-drop at bs h)
+
+part-short : (at k : ℕ) (bs : List ℕ) → length (part at k bs) ≤ k
+part-short at k bs = rw (length-take k (drop at bs)) (omega arith)
+
+-- ---- two frames that look the same through the masks
+
+one-byte : (s w m : ℕ) → bits s w m ≡ 2 ^ w - 1 → (x y : List ℕ) → length x ≤ 1 → length y ≤ 1 → through (m ∷ []) x ≡ through (m ∷ []) y → bits s w (number x) ≡ bits s w (number y)
+one-byte s w m e [] [] lx ly t = refl
+one-byte s w m e [] (q ∷ y) lx ly t = let z : _≡_ {A = ℕ} 0 1 = ap length t in absurd (omega arith)
+one-byte s w m e (p ∷ x) [] lx ly t = let z : _≡_ {A = ℕ} 1 0 = ap length t in absurd (omega arith)
+one-byte s w m e (p ∷ []) (q ∷ []) lx ly t =
+    let u : bitAnd p m ≡ bitAnd q m = ap (λ (l : List ℕ). getD l 0 0) t in
+    let v : bits s w p ≡ bits s w q = sym (through-mask s w m p e) ∙ ap (bits s w) u ∙ through-mask s w m q e in
+    let one : (n : ℕ) → n * 1 + 0 ≡ n = λ n. omega arith in
+    rw (one p, one q) v
+one-byte s w m e (p ∷ []) (q ∷ q′ ∷ y) lx ly t = absurd (omega arith)
+one-byte s w m e (p ∷ p′ ∷ x) (q ∷ y) lx ly t = absurd (omega arith)
+
+-- tag, channel and sy, of bytes 40 and 41
+record Packet (m n : ℕ) : Type 0 where
+  tag : bits 14 2 m ≡ bits 14 2 n
+  channel : bits 8 6 m ≡ bits 8 6 n
+  sy : bits 0 4 m ≡ bits 0 4 n
+
+-- in the number of two bytes the fields of the upper one are those that it has by itself
+top : (p p′ : ℕ) → p′ < 256 → bits 14 2 (number (p ∷ p′ ∷ [])) ≡ p / 64 % 4
+top p p′ h = ap (λ (n : ℕ). n % 4) (div p p′ h)
+  where
+    div : (p p′ : ℕ) → p′ < 256 → (p * 256 + (p′ * 1 + 0)) / 16384 ≡ p / 64
+    div p p′ h = omega arith
+
+upper : (p p′ : ℕ) → p′ < 256 → bits 8 6 (number (p ∷ p′ ∷ [])) ≡ p % 64
+upper p p′ h = ap (λ (n : ℕ). n % 64) (div p p′ h)
+  where
+    div : (p p′ : ℕ) → p′ < 256 → (p * 256 + (p′ * 1 + 0)) / 256 ≡ p
+    div p p′ h = omega arith
+
+two-bytes : (x y : List ℕ) → Bytes x → Bytes y → length x ≤ 2 → length y ≤ 2 → through (0xFF ∷ 0x0F ∷ []) x ≡ through (0xFF ∷ 0x0F ∷ []) y → Packet (number x) (number y)
+two-bytes [] [] hx hy lx ly t = record { tag = refl; channel = refl; sy = refl }
+two-bytes [] (q ∷ y) hx hy lx ly t = let z : _≡_ {A = ℕ} 0 1 = ap (λ (l : List ℕ). length (take 1 l)) t in absurd (omega arith)
+two-bytes (p ∷ x) [] hx hy lx ly t = let z : _≡_ {A = ℕ} 1 0 = ap (λ (l : List ℕ). length (take 1 l)) t in absurd (omega arith)
+two-bytes (p ∷ []) (q ∷ []) hx hy lx ly t =
+    let u : p % 256 ≡ q % 256 = sym (and-mask p 8) ∙ ap (λ (l : List ℕ). getD l 0 0) t ∙ and-mask q 8 in
+    let e : p ≡ q = omega (arith, hx 0, hy 0) in
+    rw e (record { tag = refl; channel = refl; sy = refl })
+two-bytes (p ∷ []) (q ∷ q′ ∷ y) hx hy lx ly t = let z : _≡_ {A = ℕ} 1 2 = ap (λ (l : List ℕ). length (take 2 l)) t in absurd (omega arith)
+two-bytes (p ∷ p′ ∷ x) (q ∷ []) hx hy lx ly t = let z : _≡_ {A = ℕ} 2 1 = ap (λ (l : List ℕ). length (take 2 l)) t in absurd (omega arith)
+two-bytes (p ∷ p′ ∷ []) (q ∷ q′ ∷ []) hx hy lx ly t =
+    let u : p % 256 ≡ q % 256 = sym (and-mask p 8) ∙ ap (λ (l : List ℕ). getD l 0 0) t ∙ and-mask q 8 in
+    let v : p′ % 16 ≡ q′ % 16 = sym (and-mask p′ 4) ∙ ap (λ (l : List ℕ). getD l 1 0) t ∙ and-mask q′ 4 in
+    let e : p ≡ q = omega (arith, hx 0, hy 0) in
+    record {
+      tag = top p p′ (hx 1) ∙ ap (λ (n : ℕ). n / 64 % 4) e ∙ sym (top q q′ (hy 1));
+      channel = upper p p′ (hx 1) ∙ ap (λ (n : ℕ). n % 64) e ∙ sym (upper q q′ (hy 1));
+      sy = omega arith;
+    }
+two-bytes (p ∷ p′ ∷ []) (q ∷ q′ ∷ q″ ∷ y) hx hy lx ly t = absurd (omega arith)
+two-bytes (p ∷ p′ ∷ p″ ∷ x) (q ∷ q′ ∷ y) hx hy lx ly t = absurd (omega arith)
+
+module _ (a b : List ℕ) (ha : Bytes a) (hb : Bytes b) (same : through regarded a ≡ through regarded b) where
+  part-masked : (at k : ℕ) → through (part at k regarded) (part at k a) ≡ through (part at k regarded) (part at k b)
+  part-masked at k = sym (part-through at k regarded a) ∙ ap (part at k) same ∙ part-through at k regarded b
+
+  -- bytes of which every bit is regarded
+  part-same : (at k : ℕ) → part at k regarded ≡ replicate k 255 → part at k a ≡ part at k b
+  part-same at k e =
+      sym (through-all k (part at k a) (part-bytes at k a ha) (part-short at k a))
+      ∙ (rw e at (part-masked at k))
+      ∙ through-all k (part at k b) (part-bytes at k b hb) (part-short at k b)
+
+  -- a field of one byte of which every bit is regarded
+  field-same : (at s w m : ℕ) → part at 1 regarded ≡ m ∷ [] → bits s w m ≡ 2 ^ w - 1 → bits s w (numberAt at 1 a) ≡ bits s w (numberAt at 1 b)
+  field-same at s w m r e = one-byte s w m e (part at 1 a) (part at 1 b) (part-short at 1 a) (part-short at 1 b) (rw r at (part-masked at 1))
+
+  number-same : (at k : ℕ) → part at k regarded ≡ replicate k 255 → numberAt at k a ≡ numberAt at k b
+  number-same at k e = ap number (part-same at k e)
+
+  fields-same : fieldsOf a ≡ fieldsOf b
+  unfolding fieldsOf headerOf ethernetOf avtpOf streamOf cipOf
+  fields-same =
+      let vlan = number-same 14 2 refl in
+      let first = number-same 18 1 refl in
+      let packet = two-bytes (part 40 2 a) (part 40 2 b) (part-bytes 40 2 a ha) (part-bytes 40 2 b hb) (part-short 40 2 a) (part-short 40 2 b) (part-masked 40 2) in
+      λ i. record {
+        header = record {
+          ethernet = record {
+            destination = number-same 0 6 refl i;
+            source = number-same 6 6 refl i;
+            tpid = number-same 12 2 refl i;
+            pcp = bits 13 3 (vlan i);
+            cfi = flag (bits 12 1 (vlan i));
+            vid = bits 0 12 (vlan i);
+            ethertype = number-same 16 2 refl i;
+          };
+          avtp = record {
+            cd = flag (bits 7 1 (first i));
+            subtype = bits 0 7 (first i);
+            sv = flag (field-same 19 7 1 0xFB refl refl i);
+            version = field-same 19 4 3 0xFB refl refl i;
+            mr = flag (field-same 19 3 1 0xFB refl refl i);
+            gv = flag (field-same 19 1 1 0xFB refl refl i);
+            tv = flag (field-same 19 0 1 0xFB refl refl i);
+            sequence = number-same 20 1 refl i;
+            tu = flag (field-same 21 0 1 0x01 refl refl i);
+          };
+          stream = record {
+            id = number-same 22 8 refl i;
+            timestamp = number-same 30 4 refl i;
+            «gateway_info» = number-same 34 4 refl i;
+            «data_length» = number-same 38 2 refl i;
+            tag = packet .tag i;
+            channel = packet .channel i;
+            sy = packet .sy i;
+          };
+        };
+        cip = record {
+          sid = field-same 42 0 6 0x3F refl refl i;
+          dbs = number-same 43 1 refl i;
+          «fraction_number» = field-same 44 6 2 0xFC refl refl i;
+          qpc = field-same 44 3 3 0xFC refl refl i;
+          sph = flag (field-same 44 2 1 0xFC refl refl i);
+          dbc = number-same 45 1 refl i;
+          fmt = field-same 46 0 6 0x3F refl refl i;
+          fdf = number-same 47 1 refl i;
+          «low_half» = number-same 48 2 refl i;
+        };
+      }
+
+-- ---- the answer
+
+-- the checks of the length go by whether the data is in the frame
+fitting : (n m : ℕ) (f : Fields) → let k = f .header .stream .«data_length» in n ≤ 1518 → 42 + k ≤ n → m ≤ 1518 → 42 + k ≤ m → readChecks n f ≡ readChecks m f
+unfolding readChecks lengthChecks headerChecks streamChecks
+fitting n m f hn kn hm km =
+    let k = f .header .stream .«data_length» in
+    rw (
+      le-ltb n 42 (omega arith),
+      le-ltb 1518 n hn,
+      le-ltb (n - 42) k (omega arith),
+      le-ltb m 42 (omega arith),
+      le-ltb 1518 m hm,
+      le-ltb (m - 42) k (omega arith),
+    )
+
+module _ (a b : List ℕ) (ha : Bytes a) (hb : Bytes b) (alike : Alike a b) where
+  refusal-same : refusal a ≡ refusal b
+  unfolding refusal fieldsOf headerOf streamOf
+  refusal-same =
+      let f : fieldsOf a ≡ fieldsOf b = fields-same a b ha hb (alike .header) in
+      let k : numberAt 38 2 a ≡ numberAt 38 2 b = number-same a b ha hb (alike .header) 38 2 refl in
+      ⊎-elim
+      (λ l. rw f (ap (λ (n : ℕ). firstOf (readChecks n (fieldsOf b))) l))
+      (λ w. rw f (ap firstOf (fitting (length a) (length b) (fieldsOf b) (w .0 .0) (rw (← k) (w .0 .1)) (w .1 .0) (w .1 .1))))
+      (alike .lengths)
+
+  reading-same : reading a ≡ reading b
+  unfolding reading
+  reading-same = rw (refusal-same, fields-same a b ha hb (alike .header))
+
+  payload-same : (n : ℕ) → payloadOfNumber n a ≡ payloadOfNumber n b
+  unfolding fieldsOf headerOf streamOf
+  payload-same zero = alike .payload ∙ ap (λ (k : ℕ). part 50 (k - 8) b) (number-same a b ha hb (alike .header) 38 2 refl)
+  payload-same (suc n) = refl
+
+pub ignored-bits : IgnoredBits
+unfolding payloadOf
+ignored-bits a b ha hb alike = (reading-same a b ha hb alike, payload-same a b ha hb alike (refusal a) ∙ ap (λ (n : ℕ). payloadOfNumber n b) (refusal-same a b ha hb alike))
