@@ -2,12 +2,11 @@
 -- the way; `search groups depth 9` proves `n ≡ orElse ..` of several groups from what each answered. Assumes nothing.
 use Prim.Native.Nat.{ℕ, zero, suc, _<_}
 use mathlib.Core.Path.{_≡_, refl, sym, _∙_}
-use mathlib.Core.Bool.{Bool, true, false, not, _&&_}
+use mathlib.Core.Bool.{Bool, true, false, not, _&&_, cond}
 use mathlib.Core.List.{List, [], _∷_, _++_}
 use native.Mathlib.Omega.{arith}
 use borrow.Author.Tests.{lt-ltb, le-ltb, eq-eqb, ne-eqb}
 use lib.Dec.{T, eqb, ltb, ltb→lt}
-use Rattle.wire.specs.Numbers.{pickNumber}
 use mir.Facts.{and-yes}
 use Rattle.frame.specs.declared.refusal.Refusal.{Refusal}
 use Rattle.frame.specs.declared.refusal.Refusal.the-variants.{FrameTooShort, FrameTooLong, WrongTpid, CfiSet, WrongEthertype, ControlAvtpdu, WrongSubtype, WrongVersion, NoStreamId, WrongAddress, DataBeyondFrame, WrongTag, NoCipHeader, PartialBlock, NotAdmitted, TableTooLong, AlreadyAdmitted, TableFull, NothingToRemove, WriteWrongAddress, WriteFieldTooWide, WritePartialBlock, WritePayloadTooLong, WriteOutputTooShort, RecordCut, RecordLength, RecordKind}
@@ -48,10 +47,10 @@ positive RecordKind = (42, refl)
 
 -- ---- within a group
 
-pub hit : (b : Bool) (n m : ℕ) → b ≡ true → n ≡ pickNumber b n m
+pub hit : (b : Bool) (n m : ℕ) → b ≡ true → n ≡ cond b n m
 hit b n m e = rw e refl
 
-pub miss : (b : Bool) (n m r : ℕ) → b ≡ false → r ≡ m → r ≡ pickNumber b n m
+pub miss : (b : Bool) (n m r : ℕ) → b ≡ false → r ≡ m → r ≡ cond b n m
 miss b n m r e q = rw e q
 
 pub ne-not : (a b : ℕ) → (a ≡ b → ⊥) → not (eqb a b) ≡ true
@@ -92,7 +91,7 @@ unfoldable pub orElse : ℕ → ℕ → ℕ
 orElse zero m = m
 orElse (suc n) m = suc n
 
-or-pick : (b : Bool) (n m k : ℕ) → 0 < n → pickNumber b n (orElse m k) ≡ orElse (pickNumber b n m) k
+or-pick : (b : Bool) (n m k : ℕ) → 0 < n → cond b n (orElse m k) ≡ orElse (cond b n m) k
 unfolding orElse
 or-pick true zero m k h = absurd (omega arith)
 or-pick true (suc n) m k h = refl

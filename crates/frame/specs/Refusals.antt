@@ -1,8 +1,7 @@
 -- The numbers answered (document 01, Numbers answered).
 use Prim.Native.Nat.{ℕ}
-use mathlib.Core.Bool.{Bool}
+use mathlib.Core.Bool.{Bool, cond}
 use mathlib.Core.List.{List, [], _∷_}
-use Rattle.wire.specs.Numbers.{pickNumber}
 use Rattle.frame.specs.declared.refusal.Refusal.{Refusal}
 use Rattle.frame.specs.declared.refusal.Refusal.the-variants.{FrameTooShort, FrameTooLong, WrongTpid, CfiSet, WrongEthertype, ControlAvtpdu, WrongSubtype, WrongVersion, NoStreamId, WrongAddress, DataBeyondFrame, WrongTag, NoCipHeader, PartialBlock, NotAdmitted, TableTooLong, AlreadyAdmitted, TableFull, NothingToRemove, WriteWrongAddress, WriteFieldTooWide, WritePartialBlock, WritePayloadTooLong, WriteOutputTooShort, RecordCut, RecordLength, RecordKind}
 
@@ -43,4 +42,4 @@ pub data Check : Type 0 where
 -- the number of the first check that applies; 0 where none does
 unfoldable pub firstOf : List Check → ℕ
 firstOf [] = 0
-firstOf ((b answers n) ∷ rest) = pickNumber b n (firstOf rest)
+firstOf ((b answers n) ∷ rest) = cond b n (firstOf rest)

@@ -13,7 +13,7 @@ use lib.ListN.{length, getD, take, drop, length-append, length-drop, length-repl
 use lib.Pow.{pow-add, pow-mono, shl-lt}
 use lib.Seq.{length-take-le, take-add, drop-drop, drop-cons}
 use Rattle.wire.specs.Bits.{width, pack, unpack, Fit}
-use Rattle.wire.specs.Numbers.{octets, number, bytes, part, numberAt, numberOr0, pickNumber}
+use Rattle.wire.specs.Numbers.{octets, number, bytes, part, numberAt, numberOr0}
 use Rattle.wire.proofs.Bits.{joined, length-unpack, pack-lt, unpack-pack, pack-unpack}
 
 width-octets : (k : ℕ) → width (octets k) ≡ 8 * k

@@ -1,6 +1,6 @@
 -- Numbers on the wire are big-endian (document 01, Frame layout): rows of fields of eight bits.
 use Prim.Native.Nat.{ℕ, _+_}
-use mathlib.Core.Bool.{Bool, true, false}
+use mathlib.Core.Bool.{cond}
 use mathlib.Core.List.{List}
 use lib.ListN.{length, take, drop, replicate}
 use lib.Dec.{leb}
@@ -26,10 +26,6 @@ part at k bs = take k (drop at bs)
 abbrev pub numberAt : ℕ → ℕ → List ℕ → ℕ
 numberAt at k bs = number (part at k bs)
 
-abbrev pub pickNumber : Bool → ℕ → ℕ → ℕ
-pickNumber true a b = a
-pickNumber false a b = b
-
 -- the same, and 0 where bs ends before them
 abbrev pub numberOr0 : ℕ → ℕ → List ℕ → ℕ
-numberOr0 at k bs = pickNumber (leb (at + k) (length bs)) (numberAt at k bs) 0
+numberOr0 at k bs = cond (leb (at + k) (length bs)) (numberAt at k bs) 0

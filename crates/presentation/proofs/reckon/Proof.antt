@@ -1,0 +1,85 @@
+-- `reckon` has an answer for each place where L + d can lie: below zero, before L, past the largest time, and from L on.
+use mathlib.Core.Path.{refl}
+use native.Mathlib.Omega.{arith}
+use borrow.Author.Needs.{needs}
+use Rattle.presentation.proofs.Offset.{distance}
+use Rattle.presentation.proofs.Reckoning.{before-zero, late, past-end, ahead, fits, reckoned}
+use Rattle.presentation.proofs.reckon.Statement.{statement}
+use Rattle.presentation.proofs.reckon.Tie as tie
+
+add-distance : tie.Need-add-distance
+add-distance c = search needs
+
+add-distance-2 : tie.Need-add-distance-2
+add-distance-2 c = search needs
+
+sub-distance : tie.Need-sub-distance
+sub-distance c = search needs
+
+cast-offset : tie.Need-cast-offset
+cast-offset c = search needs
+
+cast-offset-2 : tie.Need-cast-offset-2
+cast-offset-2 c = search needs
+
+sub-offset : tie.Need-sub-offset
+sub-offset c = fits (distance (c .args .arrival-time) (c .args .stamp)) (omega arith)
+
+sub-back : tie.Need-sub-back
+sub-back c = search needs
+
+untimed-requires : tie.Need-untimed-requires
+untimed-requires c κs = search needs
+
+returns : tie.Need-returns
+returns c =
+    let L = c .before .before .before .args .arrival-time in
+    let T = c .before .before .before .args .stamp in
+    reckoned L T (c .untimed .ensures) (before-zero L (distance L T) (omega arith))
+
+returns-2 : tie.Need-returns-2
+returns-2 c =
+    let L = c .before .before .args .arrival-time in
+    let T = c .before .before .args .stamp in
+    reckoned L T refl (late L (distance L T) (omega arith) (omega arith) (omega arith))
+
+sub-if3 : tie.Need-sub-if3
+sub-if3 c = search needs
+
+untimed-requires-2 : tie.Need-untimed-requires-2
+untimed-requires-2 c κs = search needs
+
+returns-3 : tie.Need-returns-3
+returns-3 c =
+    let L = c .before .before .before .args .arrival-time in
+    let T = c .before .before .before .args .stamp in
+    reckoned L T (c .untimed2 .ensures) (past-end L (distance L T) (omega arith) (omega arith) (omega arith))
+
+add-t8 : tie.Need-add-t8
+add-t8 c = search needs
+
+returns-4 : tie.Need-returns-4
+returns-4 c =
+    let L = c .before .before .args .arrival-time in
+    let T = c .before .before .args .stamp in
+    reckoned L T refl (ahead L (distance L T) (omega arith) (omega arith) (omega arith))
+
+pub reckon-spec : {M : Type 1} → statement M
+reckon-spec =
+    tie.close
+    (tie.spec
+    add-distance
+    add-distance-2
+    sub-distance
+    cast-offset
+    cast-offset-2
+    sub-offset
+    sub-back
+    untimed-requires
+    returns
+    returns-2
+    sub-if3
+    untimed-requires-2
+    returns-3
+    add-t8
+    returns-4)

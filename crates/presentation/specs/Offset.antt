@@ -1,0 +1,40 @@
+-- The offset of a stamp T from an arrival time L (document 01, Presentation time).
+use Prim.Native.Nat.{ℕ, _+_, _-_, _%_, _<_}
+use mathlib.Core.Path.{_≡_}
+use lib.IntN.{ℤ, pos, negsuc, negℤ, _+ℤ_, _-ℤ_, _*ℤ_}
+use lib.Signed.{_≤ℤ_}
+
+-- the remainder of a whole number, from 0 to m - 1 also for one below zero
+abbrev pub modulo : ℤ → ℕ → ℕ
+modulo (pos n) m = n % m
+modulo (negsuc n) m = m - 1 - n % m
+
+-- T - L, brought into range by whole wraps: counted from the lowest offset, it is the remainder of T - L + half a wrap
+unfoldable pub offset : ℕ → ℕ → ℤ
+offset L T = pos (modulo (pos (T + 2_147_483_648) -ℤ pos L) 4_294_967_296) -ℤ pos 2_147_483_648
+
+-- "from −2,147,483,648 to 2,147,483,647 for which L + d and T are equal modulo 4,294,967,296"
+pub record IsOffset (L T : ℕ) (d : ℤ) : Type 0 where
+  pub low : negℤ (pos 2_147_483_648) ≤ℤ d
+  pub high : d ≤ℤ pos 2_147_483_647
+  pub same : modulo (pos L +ℤ d) 4_294_967_296 ≡ modulo (pos T) 4_294_967_296
+
+-- what makes r the remainder of z: z is a whole number of times m, and r, which is below m
+pub record IsRemainder (z : ℤ) (m r : ℕ) : Type 0 where
+  pub times : ℤ
+  pub whole : z ≡ times *ℤ pos m +ℤ pos r
+  pub below : r < m
+
+-- "the one whole number": d is an offset, no other number is, and `modulo`, by which that is said, is the remainder
+pub record TheOffset (L T : ℕ) (d : ℤ) : Type 0 where
+  pub is : IsOffset L T d
+  pub only : (e : ℤ) → IsOffset L T e → e ≡ d
+  pub remainder : (z : ℤ) (m : ℕ) → 0 < m → IsRemainder z m (modulo z m)
+
+-- its meaning at zero, at both ends and at the wrap
+pub record OffsetMarks : Type 0 where
+  pub zero : (L : ℕ) → offset L L ≡ pos 0
+  pub highest : (L : ℕ) → offset L (L + 2_147_483_647) ≡ pos 2_147_483_647
+  pub lowest : (L : ℕ) → offset L (L + 2_147_483_648) ≡ negℤ (pos 2_147_483_648)
+  pub wrap-of-L : (L T : ℕ) → offset (L + 4_294_967_296) T ≡ offset L T
+  pub wrap-of-T : (L T : ℕ) → offset L (T + 4_294_967_296) ≡ offset L T

@@ -1,0 +1,59 @@
+-- Presentation time, as document 01's section of that name has it, in its order. L is the arrival time, T the stamp, d the offset.
+use Prim.Native.Nat.{ℕ}
+use mathlib.Core.Bool.{Bool, true, false, cond}
+use mathlib.Core.List.{List}
+use lib.Dec.{eqb, ltb}
+use lib.IntN.{ℤ, pos, negsuc, _+ℤ_}
+use lib.ListN.{length}
+use Rattle.wire.specs.Numbers.{numberAt}
+use Rattle.presentation.specs.declared.Kind.{Kind}
+use Rattle.presentation.specs.declared.Kind.the-variants.{None, Cut, Outside, Late, Ahead}
+use Rattle.presentation.specs.declared.Timing.{Timing}
+use Rattle.presentation.specs.declared.Stamp.{Stamp}
+use Rattle.presentation.specs.declared.Stamp.the-variants.{Absent, Short, Given}
+use Rattle.presentation.specs.Offset.{offset}
+
+-- ---- which stamp there is
+
+-- where SPH is 1, T is the first four payload bytes: absent from an empty payload, cut short in one of one to three bytes
+abbrev pub sourceStamp : List ℕ → Stamp
+sourceStamp payload =
+    cond (eqb (length payload) 0) Absent
+    (cond (ltb (length payload) 4) Short
+    (Given (numberAt 0 4 payload)))
+
+-- where SPH is 0, T is the AVTP timestamp if tv is 1; where SPH is 1, tv is not read
+abbrev pub stampOf : Bool → Bool → ℕ → List ℕ → Stamp
+stampOf false true timestamp payload = Given timestamp
+stampOf false false timestamp payload = Absent
+stampOf true tv timestamp payload = sourceStamp payload
+
+-- ---- the stamp against L
+
+-- a kind whose time is 0
+abbrev pub untimed : Kind → ℤ → Timing
+untimed kind d = record { kind = kind; offset = d; time = 0 }
+
+-- late for d below 0, ahead for d of 0 or more
+abbrev pub side : ℤ → Kind
+side (negsuc n) = Late
+side (pos n) = Ahead
+
+-- by d and the sum L + d: outside where the sum is below 0 or above 18,446,744,073,709,551,615, with d still given; else the time is the sum
+unfoldable pub timed : ℤ → ℤ → Timing
+timed d (negsuc n) = untimed Outside d
+timed d (pos n) = cond (ltb 18_446_744_073_709_551_615 n) (untimed Outside d) (record { kind = side d; offset = d; time = n })
+
+unfoldable pub timing : ℕ → ℕ → Timing
+timing L T = timed (offset L T) (pos L +ℤ offset L T)
+
+-- ---- both
+
+-- without a stamp the kind is none, with one cut short it is cut, and offset and time are 0
+abbrev pub timingOf : ℕ → Stamp → Timing
+timingOf L Absent = untimed None (pos 0)
+timingOf L Short = untimed Cut (pos 0)
+timingOf L (Given T) = timing L T
+
+unfoldable pub presentation : ℕ → Bool → Bool → ℕ → List ℕ → Timing
+presentation L sph tv timestamp payload = timingOf L (stampOf sph tv timestamp payload)

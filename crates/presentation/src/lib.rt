@@ -1,0 +1,113 @@
+// Presentation time: when a frame's samples are due, by its stamp and the time at which it arrived.
+ghost use mathlib.Core.Path.{_≡_};
+ghost use Rattle.presentation.specs.Offset.{TheOffset, OffsetMarks};
+ghost use Rattle.presentation.specs.Presentation.{untimed, stampOf, timing, presentation};
+ghost use Rattle.presentation.specs.Examples.{TimeExamples};
+
+pub enum Kind {
+    None,
+    Cut,
+    Outside,
+    Late,
+    Ahead,
+}
+
+pub struct Timing {
+    pub kind: Kind,
+    pub offset: i64,
+    pub time: u64,
+}
+
+// What a frame has of a stamp: nothing, too few bytes for one, or the stamp T.
+pub enum Stamp {
+    Absent,
+    Short,
+    Given(u32),
+}
+
+// A wrap of the stamp's 32 bits, and half of one.
+const WRAP: u64 = 4_294_967_296;
+
+const HALF_WRAP: u64 = 2_147_483_648;
+
+// A kind that goes with no time.
+fn untimed(kind: Kind, offset: i64) -> Timing
+    ensures { λ r. ⌜ r ≡ untimed kind offset ⌝ }
+{
+    Timing {
+        kind,
+        offset,
+        time: 0,
+    }
+}
+
+// Stamp T against the arrival time L. Whether T lies before or after L goes by their difference modulo a wrap, never by which number is the larger.
+pub fn reckon(arrival_time: u64, stamp: u32) -> Timing
+    ensures { λ r. ⌜ r ≡ timing «arrival_time» stamp ⌝ }
+    ensures { λ r. ⌜ TheOffset «arrival_time» stamp (r .offset) ⌝ }
+{
+    // The distance of d from the lowest offset, which is half a wrap below zero: T - L + half a wrap, modulo a wrap.
+    // A wrap more is added so that the difference is never below zero.
+    let distance: u64 = (stamp as u64 + HALF_WRAP + WRAP - arrival_time % WRAP) % WRAP;
+    let offset: i64 = distance as i64 - HALF_WRAP as i64;
+    if distance < HALF_WRAP {
+        let back = HALF_WRAP - distance;
+        if arrival_time < back {
+            return untimed(Kind::Outside, offset);
+        }
+        return Timing {
+            kind: Kind::Late,
+            offset,
+            time: arrival_time - back,
+        };
+    }
+    let on = distance - HALF_WRAP;
+    if u64::MAX - arrival_time < on {
+        return untimed(Kind::Outside, offset);
+    }
+    Timing {
+        kind: Kind::Ahead,
+        offset,
+        time: arrival_time + on,
+    }
+}
+
+// Which stamp a frame has: its AVTP timestamp, or where SPH is 1 the one that opens the payload.
+fn stamp_of(sph: bool, tv: bool, timestamp: u32, payload: &[u8]) -> Stamp
+    ensures { λ r. ⌜ r ≡ stampOf sph tv timestamp (now (payload .entry)) ⌝ }
+{
+    if sph {
+        if payload.len() == 0 {
+            return Stamp::Absent;
+        }
+        if payload.len() < 4 {
+            return Stamp::Short;
+        }
+        return Stamp::Given(frame::first_quadlet(payload));
+    }
+    if tv {
+        return Stamp::Given(timestamp);
+    }
+    Stamp::Absent
+}
+
+// The presentation time of a frame: which stamp it has, and that stamp against L.
+pub fn judge_time(arrival_time: u64, sph: bool, tv: bool, timestamp: u32, payload: &[u8]) -> Timing
+    ensures { λ r. ⌜ r ≡ presentation «arrival_time» sph tv timestamp (now (payload .entry)) ⌝ }
+{
+    match stamp_of(sph, tv, timestamp, payload) {
+        Stamp::Absent => untimed(Kind::None, 0),
+        Stamp::Short => untimed(Kind::Cut, 0),
+        Stamp::Given(stamp) => reckon(arrival_time, stamp),
+    }
+}
+
+// What the offset is at zero, at both ends and at the wrap.
+fn offset_marks()
+    ensures { λ _. ⌜ OffsetMarks ⌝ }
+{}
+
+// The rules answer the marked examples as document 01 has them.
+fn worked_examples()
+    ensures { λ _. ⌜ TimeExamples ⌝ }
+{}
