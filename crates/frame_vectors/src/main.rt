@@ -118,16 +118,23 @@ fn pair(hi: u8, lo: u8) -> u8 {
     digit(hi) * 16 + digit(lo)
 }
 
-// The bytes that a line of hexadecimal digits spells, as many as there is room for; how many they are.
-fn decode(line: &[u8], out: &mut [u8; 2048]) -> usize
-    ensures { λ r. ⌜ r ≤ 2048 ⌝ }
+fn least(a: usize, b: usize) -> usize
+    ensures { λ r. ⌜ (r ≤ a) × (r ≤ b) ⌝ }
 {
+    if a < b { a } else { b }
+}
+
+// The bytes that a line of hexadecimal digits spells, as many as there is room for; how many they are.
+fn decode(line: &[u8], out: &mut [u8]) -> usize
+    ensures { λ r. ⌜ r ≤ length (now (out .entry)) ⌝ }
+{
+    let count = least(line.len() / 2, out.len());
     let mut n = 0;
-    while n < 2048 && n < line.len() / 2 {
+    while n < count {
         out[n] = pair(line[2 * n], line[2 * n + 1]);
         n += 1;
     }
-    n
+    count
 }
 
 fn show_line(line: &[u8]) {

@@ -1,66 +1,58 @@
+use Prim.Native.Nat.{_≤_, _-_}
+use mathlib.Core.Path.{_≡_}
+use native.Mathlib.Omega.{arith}
+use lib.ListN.{length}
+use borrow.Author.Needs.{needs}
 use Rattle.frame_vectors.proofs.decode.Statement.{statement}
 use Rattle.frame_vectors.proofs.decode.Tie as tie
-use Rattle.frame_vectors.proofs.decode.Reads as reads
-use Rattle.frame_vectors.proofs.decode.Lts as lts
-use Rattle.frame_vectors.proofs.pair.Reads as pair-reads
 
 abbrev Inv-loop : tie.InvT-loop
-Inv-loop line out₀ n₀ out n = ?
+Inv-loop line out₀ count n₀ out n = (n ≤ count) × (length out ≡ length out₀)
 
 abbrev μ-loop : tie.MeasureT-loop
-μ-loop line out₀ n₀ out n = ?
+μ-loop line out₀ count n₀ out n = count - n
 
--- src/main.rt:126:5
+least-requires : tie.Need-least-requires Inv-loop μ-loop
+least-requires c κs = search needs
+
 loop-holds : tie.Need-loop-holds Inv-loop μ-loop
-loop-holds c = ?
+loop-holds c = search needs
 
--- src/main.rt:127:28
 mul-pair : tie.Need-mul-pair Inv-loop μ-loop
-mul-pair c = ?
+mul-pair c = search needs
 
--- src/main.rt:127:23
 shared-slice-read-pair : tie.Need-shared-slice-read-pair Inv-loop μ-loop
-shared-slice-read-pair c = ?
+shared-slice-read-pair c = search needs
 
--- src/main.rt:127:41
 mul-pair-2 : tie.Need-mul-pair-2 Inv-loop μ-loop
-mul-pair-2 c = ?
+mul-pair-2 c = search needs
 
--- src/main.rt:127:41
 add-pair : tie.Need-add-pair Inv-loop μ-loop
-add-pair c = ?
+add-pair c = search needs
 
--- src/main.rt:127:36
 shared-slice-read-pair-2 : tie.Need-shared-slice-read-pair-2 Inv-loop μ-loop
-shared-slice-read-pair-2 c = ?
+shared-slice-read-pair-2 c = search needs
 
--- src/main.rt:127:18
 pair-requires : tie.Need-pair-requires Inv-loop μ-loop
-pair-requires c κs = ?
+pair-requires c κs = search needs
 
--- src/main.rt:127:9
-element-write-out : tie.Need-element-write-out Inv-loop μ-loop
-element-write-out c = ?
+slice-write-out : tie.Need-slice-write-out Inv-loop μ-loop
+slice-write-out c = search needs
 
--- src/main.rt:128:9
 add-n : tie.Need-add-n Inv-loop μ-loop
-add-n c = ?
+add-n c = search needs
 
--- src/main.rt:126:5
 loop-less : tie.Need-loop-less Inv-loop μ-loop
-loop-less c = ?
+loop-less c = search needs
 
--- src/main.rt:126:5
 loop-again : tie.Need-loop-again Inv-loop μ-loop
-loop-again c = ?
+loop-again c = search needs
 
--- src/main.rt:122:1
+same-length : tie.Need-same-length Inv-loop μ-loop
+same-length c = search needs
+
 returns : tie.Need-returns Inv-loop μ-loop
-returns c = ?
-
--- src/main.rt:122:1
-returns-2 : tie.Need-returns-2 Inv-loop μ-loop
-returns-2 c = ?
+returns c = search needs
 
 pub decode-spec : {M : Type 1} → statement M
 decode-spec =
@@ -68,6 +60,7 @@ decode-spec =
     (tie.spec
     Inv-loop
     μ-loop
+    least-requires
     loop-holds
     mul-pair
     shared-slice-read-pair
@@ -75,9 +68,9 @@ decode-spec =
     add-pair
     shared-slice-read-pair-2
     pair-requires
-    element-write-out
+    slice-write-out
     add-n
     loop-less
     loop-again
-    returns
-    returns-2)
+    same-length
+    returns)

@@ -1,41 +1,35 @@
+use Prim.Native.Nat.{_≤_, _-_}
+use lib.ListN.{length}
+use borrow.Author.Needs.{needs}
 use Rattle.frame_vectors.proofs.line_end.Statement.{statement}
 use Rattle.frame_vectors.proofs.line_end.Tie as tie
-use Rattle.frame_vectors.proofs.line_end.Reads as reads
-use Rattle.frame_vectors.proofs.line_end.Lts as lts
 
 abbrev Inv-loop : tie.InvT-loop
-Inv-loop input at end₀ end = ?
+Inv-loop input at end₀ end = (at ≤ end) × (end ≤ length input)
 
 abbrev μ-loop : tie.MeasureT-loop
-μ-loop input at end₀ end = ?
+μ-loop input at end₀ end = length input - end
 
--- src/main.rt:153:5
 loop-holds : tie.Need-loop-holds Inv-loop μ-loop
-loop-holds c = ?
+loop-holds c = search needs
 
--- src/main.rt:153:32
 shared-slice-read-if1 : tie.Need-shared-slice-read-if1 Inv-loop μ-loop
-shared-slice-read-if1 c = ?
+shared-slice-read-if1 c = search needs
 
--- src/main.rt:154:9
 add-end : tie.Need-add-end Inv-loop μ-loop
-add-end c = ?
+add-end c = search needs
 
--- src/main.rt:153:5
 loop-less : tie.Need-loop-less Inv-loop μ-loop
-loop-less c = ?
+loop-less c = search needs
 
--- src/main.rt:153:5
 loop-again : tie.Need-loop-again Inv-loop μ-loop
-loop-again c = ?
+loop-again c = search needs
 
--- src/main.rt:148:1
 returns : tie.Need-returns Inv-loop μ-loop
-returns c = ?
+returns c = search needs
 
--- src/main.rt:148:1
 returns-2 : tie.Need-returns-2 Inv-loop μ-loop
-returns-2 c = ?
+returns-2 c = search needs
 
 pub line-end-spec : {M : Type 1} → statement M
 line-end-spec =
