@@ -1,0 +1,62 @@
+-- What a received frame is answered, and what it leaves of the record, as functions of the record, the frame's bytes and L alone
+-- (document 01, Lists of arrivals).
+use Prim.Native.Nat.{ℕ}
+use mathlib.Core.Bool.{false}
+use mathlib.Core.List.{List, []}
+use lib.IntN.{pos}
+use Rattle.frame.specs.declared.layout.Fields.{Fields}
+use Rattle.frame.specs.Layout.{fieldsOf}
+use Rattle.frame.specs.Refusals.{numberOf}
+use Rattle.frame.specs.Reading.{noFields, payloadOf}
+use Rattle.presentation.specs.declared.Timing.{Timing}
+use Rattle.presentation.specs.declared.Kind.the-variants.{None}
+use Rattle.presentation.specs.Presentation.{untimed}
+use Rattle.stream.specs.declared.Record.{Record}
+use Rattle.stream.specs.declared.Flags.{Flags}
+use Rattle.stream.specs.declared.Stepped.{Stepped}
+use Rattle.stream.specs.declared.Receipt.{Receipt}
+use Rattle.stream.specs.declared.Receipt.the-variants.{Accepted, Refused}
+use Rattle.stream.specs.Step.{stepped}
+
+-- document 01's number, 0 where the frame is accepted, and every value
+pub record Answer : Type 0 where
+  pub number : ℕ
+  pub fields : Fields
+  pub payload : List ℕ
+  pub flags : Flags
+  pub timing : Timing
+
+abbrev pub noFlags : Flags
+noFlags = record { sequence = false; block = false; format = false; mr = false }
+
+-- a refusal: the number, every other field zero or no, an empty part
+unfoldable pub refusedWith : ℕ → Answer
+refusedWith n = record { number = n; fields = noFields; payload = []; flags = noFlags; timing = untimed None (pos 0) }
+
+-- the step for an accepted frame
+unfoldable pub stepOf : Record → List ℕ → ℕ → Stepped
+stepOf r frame L = stepped r (fieldsOf frame) (payloadOf frame) L
+
+-- what it answers
+unfoldable pub answerOf : Record → List ℕ → ℕ → Answer
+answerOf r frame L =
+    record {
+      number = 0;
+      fields = fieldsOf frame;
+      payload = payloadOf frame;
+      flags = stepOf r frame L .flags;
+      timing = stepOf r frame L .timing;
+    }
+
+-- the record afterwards
+unfoldable pub after : Record → List ℕ → ℕ → Record
+after r frame L = stepOf r frame L .after
+
+-- the stream of an accepted frame
+unfoldable pub idOf : List ℕ → ℕ
+idOf frame = fieldsOf frame .header .stream .id
+
+-- what each case of a receipt says, beside the payload that goes with it
+abbrev pub told : Receipt → List ℕ → Answer
+told (Accepted j) payload = record { number = 0; fields = j .fields; payload = payload; flags = j .flags; timing = j .timing }
+told (Refused r) payload = refusedWith (numberOf r)

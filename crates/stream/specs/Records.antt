@@ -1,0 +1,113 @@
+-- A stream's record and what an accepted frame makes of it (document 01, Stream records).
+use Prim.Native.Nat.{ℕ, _+_, _%_}
+use mathlib.Core.Bool.{Bool, true, false, not, _&&_, _||_, cond, Bool·beq}
+use mathlib.Core.List.{List}
+use lib.Dec.{ltb}
+use Rattle.frame.specs.declared.layout.Cip.{Cip}
+use Rattle.frame.specs.declared.layout.Fields.{Fields}
+use Rattle.frame.specs.Checks.{differs}
+use Rattle.frame.specs.Reading.{blocksOf}
+use Rattle.stream.specs.declared.Format.{Format}
+use Rattle.stream.specs.declared.Counts.{Counts}
+use Rattle.stream.specs.declared.Record.{Record}
+use Rattle.stream.specs.declared.Flags.{Flags}
+
+-- ---- Admission and removal
+
+abbrev noFormat : Format
+noFormat = record { fmt = 0; dbs = 0; «fraction_number» = 0; sph = false }
+
+abbrev noCounts : Counts
+noCounts = record { frames = 0; «sequence_breaks» = 0; «block_breaks» = 0; «format_changes» = 0; «mr_changes» = 0 }
+
+-- an unused record has every field zero
+unfoldable pub unused : Record
+unused =
+    record {
+      «in_use» = false;
+      seen = false;
+      id = 0;
+      sequence = 0;
+      «next_dbc» = 0;
+      mr = false;
+      format = noFormat;
+      counts = noCounts;
+    }
+
+-- after admission it holds the id, nothing seen and zero in every other field and count
+unfoldable pub admitted : ℕ → Record
+admitted id =
+    record {
+      «in_use» = true;
+      seen = false;
+      id = id;
+      sequence = 0;
+      «next_dbc» = 0;
+      mr = false;
+      format = noFormat;
+      counts = noCounts;
+    }
+
+-- ---- Flags, judged on the record as it stood
+
+-- the number isn't (last + 1) mod 256
+abbrev pub sequenceBreak : ℕ → ℕ → Bool
+sequenceBreak last sequence = differs sequence ((last + 1) % 256)
+
+abbrev pub bitDiffers : Bool → Bool → Bool
+bitDiffers a b = not (Bool·beq a b)
+
+-- FMT, DBS, FN and SPH
+unfoldable pub formatOf : Cip → Format
+formatOf c = record { fmt = c .fmt; dbs = c .dbs; «fraction_number» = c .«fraction_number»; sph = c .sph }
+
+-- any of the four format fields differs
+unfoldable pub formatChange : Format → Format → Bool
+formatChange last f =
+    differs (f .fmt) (last .fmt)
+    || differs (f .dbs) (last .dbs)
+    || differs (f .«fraction_number») (last .«fraction_number»)
+    || bitDiffers (f .sph) (last .sph)
+
+-- no flag is raised on the first frame after admission
+unfoldable pub flagsOf : Record → Fields → Flags
+flagsOf r f =
+    record {
+      sequence = r .seen && sequenceBreak (r .sequence) (f .header .avtp .sequence);
+      block = r .seen && differs (f .cip .dbc) (r .«next_dbc»);
+      format = r .seen && formatChange (r .format) (formatOf (f .cip));
+      mr = r .seen && bitDiffers (f .header .avtp .mr) (r .mr);
+    }
+
+-- ---- What the record holds afterwards
+
+-- next block count
+abbrev pub nextDbc : ℕ → ℕ → ℕ
+nextDbc dbc blocks = (dbc + blocks) % 256
+
+-- up by 1 where the flag is raised; a count stays at 4,294,967,295 once there
+unfoldable pub bump : Bool → ℕ → ℕ
+bump raised n = cond (raised && ltb n 4_294_967_295) (n + 1) n
+
+unfoldable pub countsAfter : Counts → Flags → Counts
+countsAfter c raised =
+    record {
+      frames = bump true (c .frames);
+      «sequence_breaks» = bump (raised .sequence) (c .«sequence_breaks»);
+      «block_breaks» = bump (raised .block) (c .«block_breaks»);
+      «format_changes» = bump (raised .format) (c .«format_changes»);
+      «mr_changes» = bump (raised .mr) (c .«mr_changes»);
+    }
+
+unfoldable pub recordAfter : Record → Fields → List ℕ → Flags → Record
+recordAfter r f payload raised =
+    record {
+      «in_use» = r .«in_use»;
+      seen = true;
+      id = r .id;
+      sequence = f .header .avtp .sequence;
+      «next_dbc» = nextDbc (f .cip .dbc) (blocksOf payload (f .cip .dbs));
+      mr = f .header .avtp .mr;
+      format = formatOf (f .cip);
+      counts = countsAfter (r .counts) raised;
+    }

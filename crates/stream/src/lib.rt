@@ -1,0 +1,210 @@
+// A stream's record, and what an accepted frame makes of it: the flags judged on the record as it stood, the presentation time, and
+// the record brought up to date.
+use frame::layout::Cip;
+use frame::layout::Fields;
+use frame::refusal::Refusal;
+use presentation::Timing;
+ghost use mathlib.Core.Path.{_≡_};
+ghost use mathlib.Core.Bool.{_&&_};
+ghost use Rattle.stream.specs.Records.{unused, admitted, formatOf, formatChange, sequenceBreak, flagsOf, nextDbc, bump, countsAfter, recordAfter};
+ghost use Rattle.stream.specs.Step.{stepped};
+
+// The four format fields of a CIP header.
+pub struct Format {
+    pub fmt: u8,
+    pub dbs: u8,
+    pub fraction_number: u8,
+    pub sph: bool,
+}
+
+// Counts since admission. Each stays at 4,294,967,295 once there.
+pub struct Counts {
+    pub frames: u32,
+    pub sequence_breaks: u32,
+    pub block_breaks: u32,
+    pub format_changes: u32,
+    pub mr_changes: u32,
+}
+
+pub struct Record {
+    pub in_use: bool,
+    // a frame has been accepted since admission
+    pub seen: bool,
+    pub id: u64,
+    pub sequence: u8,
+    // the block count that the next frame should have
+    pub next_dbc: u8,
+    pub mr: bool,
+    pub format: Format,
+    pub counts: Counts,
+}
+
+pub struct Flags {
+    pub sequence: bool,
+    pub block: bool,
+    pub format: bool,
+    pub mr: bool,
+}
+
+pub struct Stepped {
+    pub after: Record,
+    pub flags: Flags,
+    pub timing: Timing,
+}
+
+// What is answered to an accepted frame, beside its payload.
+pub struct Judged {
+    pub fields: Fields,
+    pub flags: Flags,
+    pub timing: Timing,
+}
+
+pub enum Receipt {
+    Accepted(Judged),
+    Refused(Refusal),
+}
+
+pub fn unused() -> Record
+    ensures { λ r. ⌜ r ≡ unused ⌝ }
+{
+    Record {
+        in_use: false,
+        seen: false,
+        id: 0,
+        sequence: 0,
+        next_dbc: 0,
+        mr: false,
+        format: Format {
+            fmt: 0,
+            dbs: 0,
+            fraction_number: 0,
+            sph: false,
+        },
+        counts: Counts {
+            frames: 0,
+            sequence_breaks: 0,
+            block_breaks: 0,
+            format_changes: 0,
+            mr_changes: 0,
+        },
+    }
+}
+
+// A stream newly admitted: its id, nothing seen, zero in every other field and count.
+pub fn admitted(id: u64) -> Record
+    ensures { λ r. ⌜ r ≡ admitted id ⌝ }
+{
+    let mut record = unused();
+    record.in_use = true;
+    record.id = id;
+    record
+}
+
+fn format_of(cip: Cip) -> Format
+    ensures { λ r. ⌜ r ≡ formatOf cip ⌝ }
+{
+    Format {
+        fmt: cip.fmt,
+        dbs: cip.dbs,
+        fraction_number: cip.fraction_number,
+        sph: cip.sph,
+    }
+}
+
+fn format_change(last: Format, format: Format) -> bool
+    ensures { λ r. ⌜ r ≡ formatChange last format ⌝ }
+{
+    (format.fmt != last.fmt)
+        | (format.dbs != last.dbs)
+        | (format.fraction_number != last.fraction_number)
+        | (format.sph != last.sph)
+}
+
+fn sequence_break(last: u8, sequence: u8) -> bool
+    ensures { λ r. ⌜ r ≡ sequenceBreak last sequence ⌝ }
+{
+    sequence as u16 != (last as u16 + 1) % 256
+}
+
+// Judged on the record as it stood. On the first frame after admission no flag is raised.
+fn raise_flags(last: Record, fields: Fields) -> Flags
+    ensures { λ r. ⌜ r ≡ flagsOf last fields ⌝ }
+{
+    let avtp = fields.header.avtp;
+    let cip = fields.cip;
+    let seen = last.seen;
+    Flags {
+        sequence: seen & sequence_break(last.sequence, avtp.sequence),
+        block: seen & (cip.dbc != last.next_dbc),
+        format: seen & format_change(last.format, format_of(cip)),
+        mr: seen & (avtp.mr != last.mr),
+    }
+}
+
+// The block count that follows a frame.
+fn next_dbc(dbc: u8, blocks: usize) -> u8
+    ensures { λ r. ⌜ r ≡ nextDbc dbc blocks ⌝ }
+{
+    ((dbc as usize + blocks % 256) % 256) as u8
+}
+
+// A count, one higher where the flag is raised and there is room.
+fn bump(raised: bool, count: u32) -> u32
+    ensures { λ r. ⌜ r ≡ bump raised count ⌝ }
+{
+    if raised {
+        if count < 4_294_967_295 {
+            return count + 1;
+        }
+    }
+    count
+}
+
+fn count_frame(counts: Counts, raised: Flags) -> Counts
+    ensures { λ r. ⌜ r ≡ countsAfter counts raised ⌝ }
+{
+    Counts {
+        frames: bump(true, counts.frames),
+        sequence_breaks: bump(raised.sequence, counts.sequence_breaks),
+        block_breaks: bump(raised.block, counts.block_breaks),
+        format_changes: bump(raised.format, counts.format_changes),
+        mr_changes: bump(raised.mr, counts.mr_changes),
+    }
+}
+
+fn update(last: Record, fields: Fields, payload: &[u8], raised: Flags) -> Record
+    ensures { λ r. ⌜ r ≡ recordAfter last fields (now (payload .entry)) raised ⌝ }
+{
+    let avtp = fields.header.avtp;
+    let cip = fields.cip;
+    Record {
+        in_use: last.in_use,
+        seen: true,
+        id: last.id,
+        sequence: avtp.sequence,
+        next_dbc: next_dbc(cip.dbc, frame::blocks(payload, cip.dbs)),
+        mr: avtp.mr,
+        format: format_of(cip),
+        counts: count_frame(last.counts, raised),
+    }
+}
+
+// One accepted frame, with its payload and arrival time.
+pub fn step(last: Record, fields: Fields, payload: &[u8], arrival_time: u64) -> Stepped
+    ensures { λ r. ⌜ r ≡ stepped last fields (now (payload .entry)) «arrival_time» ⌝ }
+{
+    let flags = raise_flags(last, fields);
+    let timing = presentation::judge_time(
+        arrival_time,
+        fields.cip.sph,
+        fields.header.avtp.tv,
+        fields.header.stream.timestamp,
+        payload,
+    );
+    let after = update(last, fields, payload, flags);
+    Stepped {
+        after,
+        flags,
+        timing,
+    }
+}
