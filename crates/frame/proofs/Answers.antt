@@ -2,6 +2,8 @@
 use Prim.Native.Nat.{ℕ, zero, suc, _+_, _≤_}
 use mathlib.Core.Path.{_≡_, refl, sym, ap, _∙_}
 use mathlib.Core.List.{List, []}
+use native.Mathlib.Omega.{arith}
+use borrow.Author.Tests.{le-ltb}
 use lib.ListN.{length}
 use Rattle.frame.specs.declared.refusal.Refusal.{Refusal}
 use Rattle.frame.specs.declared.layout.Fields.{Fields}
@@ -13,15 +15,23 @@ use Rattle.frame.specs.declared.checks.Verdict.{Verdict}
 use Rattle.frame.specs.declared.checks.Verdict.the-variants as verdict
 use Rattle.frame.specs.Layout.{headerOf, cipOf, fieldsOf}
 use Rattle.frame.specs.Refusals.{numberOf, firstOf}
-use Rattle.frame.specs.Checks.{lengthChecks, headerChecks, blockChecks, refusal}
+use Rattle.frame.specs.Checks.{lengthChecks, headerChecks, blockChecks, frameChecks, refusal}
 use Rattle.frame.specs.Verdicts.{verdictNumber}
-use Rattle.frame.specs.Reading.{Answer, noFields, answer, reading, told}
+use Rattle.frame.specs.Reading.{Answer, noFields, answer, reading, told, payloadOf, dataOf}
 use Rattle.frame.proofs.First.{positive, stop, go}
 use Rattle.frame.proofs.Groups.{read-then, accepted-room}
 
 number-of-answer : (n : ℕ) (f : Fields) → answer n f .number ≡ n
 number-of-answer zero f = refl
 number-of-answer (suc n) f = refl
+
+-- the data of an accepted frame is in it, and is its payload
+pub data-payload : (frame : List ℕ) → refusal frame ≡ 0 → dataOf frame (fieldsOf frame .header .stream .«data_length») ≡ payloadOf frame
+unfolding refusal frameChecks dataOf payloadOf
+data-payload frame e =
+    let n = fieldsOf frame .header .stream .«data_length» in
+    let h : (8 ≤ n) × (n + 42 ≤ length frame) = accepted-room (length frame) (fieldsOf frame) e in
+    rw (le-ltb n 8 (h .0), le-ltb (length frame) (42 + n) (omega arith), e)
 
 module _ (frame : List ℕ) where
   -- from the rules to the answer
@@ -36,17 +46,17 @@ module _ (frame : List ℕ) where
   -- the verdicts of the three groups of checks, one after another
   module _ {u : Verdict} (lengths : verdictNumber u ≡ firstOf (lengthChecks (length frame))) where
     pub length-refuses : {r : Refusal} → u ≡ verdict.Refused r → told (Refused r) ≡ reading frame
-    unfolding refusal
+    unfolding refusal frameChecks
     length-refuses {r} z = refuses r (rw (read-then (length frame) (fieldsOf frame)) (stop u r _ _ lengths z))
 
     module _ (zu : u ≡ verdict.Passed) {h : Header} (hs : h ≡ headerOf frame) {v : Verdict} (headers : verdictNumber v ≡ firstOf (headerChecks (length frame) h)) where
       pub header-refuses : {r : Refusal} → v ≡ verdict.Refused r → told (Refused r) ≡ reading frame
-      unfolding refusal fieldsOf
+      unfolding refusal frameChecks fieldsOf
       header-refuses {r} z = refuses r (rw (read-then (length frame) (fieldsOf frame), ← hs) (go u _ _ _ lengths zu (stop v r _ _ headers z)))
 
       module _ (zv : v ≡ verdict.Passed) {p : Cip} (ps : p ≡ cipOf frame) where
         whole : {k : ℕ} → k ≡ firstOf (blockChecks (h .stream) p) → k ≡ refusal frame
-        unfolding refusal fieldsOf
+        unfolding refusal frameChecks fieldsOf
         whole blocks = rw (read-then (length frame) (fieldsOf frame), ← hs, ← ps) (go u _ _ _ lengths zu (go v _ _ _ headers zv blocks))
 
         module _ {w : Verdict} (blocks : verdictNumber w ≡ firstOf (blockChecks (h .stream) p)) where
@@ -72,7 +82,5 @@ module _ (frame : List ℕ) where
       unfolding reading
       accepted-fields = ap (λ (y : Reading). told y .fields) (sym z) ∙ ap (λ (a : Answer). a .fields) e ∙ rw accepted-number
 
-      -- the data of an accepted frame fits it
-      pub room : (8 ≤ f .header .stream .«data_length») × (f .header .stream .«data_length» + 42 ≤ length frame)
-      unfolding refusal
-      room = rw accepted-fields (accepted-room (length frame) (fieldsOf frame) accepted-number)
+      pub accepted-payload : dataOf frame (f .header .stream .«data_length») ≡ payloadOf frame
+      accepted-payload = rw accepted-fields (data-payload frame accepted-number)

@@ -16,7 +16,7 @@ use Rattle.wire.specs.Numbers.{part, number, numberAt}
 use Rattle.frame.specs.Layout.{ethernetOf, avtpOf, streamOf, headerOf, cipOf, fieldsOf}
 use Rattle.frame.specs.declared.layout.Fields.{Fields}
 use Rattle.frame.specs.Refusals.{firstOf}
-use Rattle.frame.specs.Checks.{lengthChecks, streamChecks, headerChecks, readChecks, refusal}
+use Rattle.frame.specs.Checks.{lengthChecks, streamChecks, headerChecks, readChecks, frameChecks, refusal}
 use Rattle.frame.specs.Reading.{reading, payloadOfNumber, payloadOf}
 use Rattle.frame.specs.Ignored.{regarded, through, Whole, Alike, Bytes, IgnoredBits}
 
@@ -210,7 +210,7 @@ fitting n m f hn kn hm km =
 
 module _ (a b : List ℕ) (ha : Bytes a) (hb : Bytes b) (alike : Alike a b) where
   refusal-same : refusal a ≡ refusal b
-  unfolding refusal fieldsOf headerOf streamOf
+  unfolding refusal frameChecks fieldsOf headerOf streamOf
   refusal-same =
       let f : fieldsOf a ≡ fieldsOf b = fields-same a b ha hb (alike .header) in
       let k : numberAt 38 2 a ≡ numberAt 38 2 b = number-same a b ha hb (alike .header) 38 2 refl in

@@ -87,6 +87,9 @@ headerChecks n h =
 unfoldable pub readChecks : ℕ → Fields → List Check
 readChecks n f = lengthChecks n ++ headerChecks n (f .header) ++ blockChecks (f .header .stream) (f .cip)
 
+unfoldable pub frameChecks : List ℕ → List Check
+frameChecks frame = readChecks (length frame) (fieldsOf frame)
+
 -- the number that a frame is answered, 0 where it is accepted
 unfoldable pub refusal : List ℕ → ℕ
-refusal frame = firstOf (readChecks (length frame) (fieldsOf frame))
+refusal frame = firstOf (frameChecks frame)

@@ -1,6 +1,8 @@
 -- What is answered to a frame: its fields and its payload, or a number (document 01, Frame layout and Numbers answered).
-use Prim.Native.Nat.{ℕ, zero, suc, _-_, _/_}
+use Prim.Native.Nat.{ℕ, zero, suc, _+_, _-_, _/_}
+use mathlib.Core.Bool.{_||_, cond}
 use mathlib.Core.List.{List, []}
+use lib.Dec.{ltb}
 use lib.ListN.{length, replicate}
 use Rattle.wire.specs.Numbers.{part, numberOr0}
 use Rattle.frame.specs.declared.layout.Fields.{Fields}
@@ -39,6 +41,10 @@ payloadOfNumber (suc n) frame = []
 
 unfoldable pub payloadOf : List ℕ → List ℕ
 payloadOf frame = payloadOfNumber (refusal frame) frame
+
+-- the same part by a stream_data_length that is known already; nothing where the frame has no such part
+unfoldable pub dataOf : List ℕ → ℕ → List ℕ
+dataOf frame n = cond (ltb n 8 || ltb (length frame) (42 + n)) [] (part 50 (n - 8) frame)
 
 -- the blocks of a payload
 unfoldable pub blocksOf : List ℕ → ℕ → ℕ

@@ -8,7 +8,7 @@ use checks::Verdict;
 use layout::Fields;
 use refusal::Refusal;
 ghost use mathlib.Core.Path.{_≡_};
-ghost use Rattle.frame.specs.Reading.{reading, told, payloadOf, blocksOf, firstQuadlet};
+ghost use Rattle.frame.specs.Reading.{reading, told, dataOf, payloadOf, blocksOf, firstQuadlet};
 ghost use Rattle.frame.specs.Ignored.{IgnoredBits};
 
 pub enum Reading {
@@ -37,6 +37,21 @@ pub fn read(frame: &[u8]) -> Reading
     Reading::Accepted(Fields { header, cip })
 }
 
+// The part of a frame that a stream_data_length leaves to the payload; empty where the frame has no such part. For a caller that has
+// read the frame already.
+pub fn data(frame: &[u8], data_length: u16) -> &[u8]
+    ensures { λ r. ⌜ now r ≡ dataOf (now (frame .entry)) «data_length» ⌝ }
+{
+    if data_length < 8 {
+        return &frame[..0];
+    }
+    let end = 42 + data_length as usize;
+    if frame.len() < end {
+        return &frame[..0];
+    }
+    &frame[50..end]
+}
+
 // The part of the frame that is its payload; empty where the frame is refused.
 pub fn payload(frame: &[u8]) -> &[u8]
     ensures { λ r. ⌜ now r ≡ payloadOf (now (frame .entry)) ⌝ }
@@ -44,8 +59,7 @@ pub fn payload(frame: &[u8]) -> &[u8]
     let Reading::Accepted(fields) = read(frame) else {
         return &frame[..0];
     };
-    let end = 42 + fields.header.stream.data_length as usize;
-    &frame[50..end]
+    data(frame, fields.header.stream.data_length)
 }
 
 // How many blocks a payload has.

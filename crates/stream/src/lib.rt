@@ -7,7 +7,7 @@ use presentation::Timing;
 ghost use mathlib.Core.Path.{_≡_};
 ghost use mathlib.Core.Bool.{_&&_};
 ghost use Rattle.stream.specs.Records.{unused, admitted, formatOf, formatChange, sequenceBreak, flagsOf, nextDbc, bump, countsAfter, recordAfter};
-ghost use Rattle.stream.specs.Step.{stepped};
+ghost use Rattle.stream.specs.Step.{stepped, served};
 
 // The four format fields of a CIP header.
 pub struct Format {
@@ -62,6 +62,11 @@ pub struct Judged {
 pub enum Receipt {
     Accepted(Judged),
     Refused(Refusal),
+}
+
+pub struct Served {
+    pub after: Record,
+    pub receipt: Receipt,
 }
 
 pub fn unused() -> Record
@@ -206,5 +211,25 @@ pub fn step(last: Record, fields: Fields, payload: &[u8], arrival_time: u64) -> 
         after,
         flags,
         timing,
+    }
+}
+
+// An accepted frame that has been read, for the record of its stream: what is answered, and the record afterwards.
+pub fn serve(last: Record, fields: Fields, frame: &[u8], arrival_time: u64) -> Served
+    ensures { λ r. ⌜ r ≡ served last fields (now (frame .entry)) «arrival_time» ⌝ }
+{
+    let payload = frame::data(frame, fields.header.stream.data_length);
+    let stepped = step(last, fields, payload, arrival_time);
+    let after = stepped.after;
+    let flags = stepped.flags;
+    let timing = stepped.timing;
+    let judged = Judged {
+        fields,
+        flags,
+        timing,
+    };
+    Served {
+        after,
+        receipt: Receipt::Accepted(judged),
     }
 }
