@@ -1,0 +1,116 @@
+-- Tables of stream records: admission, removal and receiving (document 01, Stream records and Numbers answered).
+use Prim.Native.Nat.{ℕ, zero, suc}
+use mathlib.Core.Bool.{Bool, true, false, not, cond, _&&_, _||_}
+use mathlib.Core.List.{List, [], _∷_, _++_}
+use lib.Dec.{eqb, ltb}
+use lib.ListN.{length, getD, set}
+use Rattle.frame.specs.Refusals.{numberOf, Check, _answers_, firstOf}
+use Rattle.frame.specs.Checks.{frameChecks}
+use Rattle.stream.specs.declared.Record.{Record}
+use Rattle.stream.specs.Records.{unused, admitted}
+use Rattle.stream.specs.Answers.{Answer, refusedWith, answerOf, after, idOf}
+use Rattle.table.specs.declared.Found.{Found}
+use Rattle.table.specs.declared.Found.the-variants.{At, Nothing}
+use Rattle.table.specs.declared.Wanted.{Wanted}
+use Rattle.table.specs.declared.Wanted.the-variants.{Holding, Unused}
+use Rattle.table.specs.declared.Change.{Change}
+use Rattle.table.specs.declared.Change.the-variants.{Made, Refused}
+
+abbrev pub Table : Type 0
+Table = List Record
+
+-- ---- Searching
+
+-- the record is in use and holds the id
+abbrev pub holds : ℕ → Record → Bool
+holds id r = r .«in_use» && eqb (r .id) id
+
+abbrev pub isUnused : Record → Bool
+isUnused r = not (r .«in_use»)
+
+-- is there a record for which the test holds?
+unfoldable pub any : (Record → Bool) → Table → Bool
+any p [] = false
+any p (r ∷ t) = p r || any p t
+
+-- the lowest place of such a record
+unfoldable pub place : (Record → Bool) → Table → ℕ
+place p [] = 0
+place p (r ∷ t) = cond (p r) 0 (suc (place p t))
+
+-- the record at a place
+abbrev pub at : Table → ℕ → Record
+at t i = getD t i unused
+
+-- ---- Admission and removal
+
+abbrev pub admitChecks : Table → ℕ → List Check
+admitChecks t id =
+    ltb 64 (length t) answers 20
+    ∷ any (holds id) t answers 21
+    ∷ not (any isUnused t) answers 22
+    ∷ []
+
+abbrev pub removeChecks : Table → ℕ → List Check
+removeChecks t id =
+    ltb 64 (length t) answers 20
+    ∷ not (any (holds id) t) answers 23
+    ∷ []
+
+-- the table with another record at a place, where the number is 0; else as it was
+abbrev pub changed : ℕ → Table → ℕ → Record → Table
+changed zero t i r = set t i r
+changed (suc n) t i r = t
+
+-- the number answered, and the table afterwards: the unused record with the lowest place is taken
+unfoldable pub admit : Table → ℕ → ℕ × Table
+admit t id = (firstOf (admitChecks t id), changed (firstOf (admitChecks t id)) t (place isUnused t) (admitted id))
+
+unfoldable pub remove : Table → ℕ → ℕ × Table
+remove t id = (firstOf (removeChecks t id), changed (firstOf (removeChecks t id)) t (place (holds id) t) unused)
+
+-- what each case of an answer says
+abbrev pub changeNumber : Change → ℕ
+changeNumber Made = 0
+changeNumber (Refused r) = numberOf r
+
+-- ---- Receiving
+
+-- 20 before all else, then the reader's numbers, then 15
+abbrev pub receiveChecks : Table → List ℕ → List Check
+receiveChecks t frame =
+    ltb 64 (length t) answers 20
+    ∷ frameChecks frame
+    ++ not (any (holds (idOf frame)) t) answers 15
+    ∷ []
+
+-- the number that a frame gets with the table t, 0 where it is accepted
+unfoldable pub numberWith : Table → List ℕ → ℕ
+numberWith t frame = firstOf (receiveChecks t frame)
+
+-- what is answered, and the table afterwards: the record of the frame's stream takes the step
+abbrev pub receiveBy : ℕ → Table → List ℕ → ℕ → Answer × Table
+receiveBy zero t frame L =
+    let i = place (holds (idOf frame)) t in
+    (answerOf (at t i) frame L, set t i (after (at t i) frame L))
+receiveBy (suc n) t frame L = (refusedWith (suc n), t)
+
+unfoldable pub receive : Table → List ℕ → ℕ → Answer × Table
+receive t frame L = receiveBy (numberWith t frame) t frame L
+
+-- ---- A record lent alone is a table of one
+
+abbrev pub only : Table → Record
+only t = at t 0
+
+unfoldable pub receiveAlone : Record → List ℕ → ℕ → Answer × Record
+receiveAlone r frame L = ((receive (r ∷ []) frame L) .0, only ((receive (r ∷ []) frame L) .1))
+
+-- ---- What the search answers
+
+abbrev pub wants : Wanted → Record → Bool
+wants (Holding id) = holds id
+wants Unused = isUnused
+
+unfoldable pub find : Table → Wanted → Found
+find t w = cond (any (wants w) t) (At (place (wants w) t)) Nothing
