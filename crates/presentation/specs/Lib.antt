@@ -1,3 +1,2 @@
 pub mod Offset
 pub mod Presentation
-pub mod Examples

@@ -2,7 +2,6 @@
 ghost use mathlib.Core.Path.{_≡_};
 ghost use Rattle.presentation.specs.Offset.{TheOffset, OffsetMarks};
 ghost use Rattle.presentation.specs.Presentation.{untimed, stampOf, timing, presentation};
-ghost use Rattle.presentation.specs.Examples.{TimeExamples};
 
 pub enum Kind {
     None,
@@ -105,9 +104,4 @@ pub fn judge_time(arrival_time: u64, sph: bool, tv: bool, timestamp: u32, payloa
 // What the offset is at zero, at both ends and at the wrap.
 fn offset_marks()
     ensures { λ _. ⌜ OffsetMarks ⌝ }
-{}
-
-// The rules answer the marked examples as document 01 has them.
-fn worked_examples()
-    ensures { λ _. ⌜ TimeExamples ⌝ }
 {}

@@ -1,3 +1,4 @@
 pub mod Records
 pub mod Step
 pub mod Answers
+pub mod Examples
