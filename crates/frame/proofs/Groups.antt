@@ -4,13 +4,14 @@ use mathlib.Core.Path.{_≡_, refl, sym, ap, _∙_}
 use mathlib.Core.List.{List, _++_}
 use native.Mathlib.Omega.{arith}
 use borrow.Author.Tests.{ltb-false}
+use lib.Dec.{T}
 use lib.ListN.{length}
 use Rattle.frame.specs.declared.layout.Stream.{Stream}
 use Rattle.frame.specs.declared.layout.Header.{Header}
 use Rattle.frame.specs.declared.layout.Fields.{Fields}
 use Rattle.frame.specs.Refusals.{firstOf}
-use Rattle.frame.specs.Checks.{quadlets, blockBytes, lengthChecks, ethernetChecks, avtpChecks, addressChecks, streamChecks, blockChecks, headerChecks, readChecks}
-use Rattle.frame.proofs.First.{clear, orElse, then, both}
+use Rattle.frame.specs.Checks.{quadlets, blockBytes, lengthChecks, ethernetChecks, avtpChecks, addressChecks, streamChecks, blockChecks, headerChecks, readChecks, frameChecks}
+use Rattle.frame.proofs.First.{numbered, clear, orElse, then, both}
 
 pub header-then : (n : ℕ) (h : Header) → firstOf (headerChecks n h) ≡
     orElse (firstOf (ethernetChecks (h .ethernet))) (orElse (firstOf (avtpChecks (h .avtp))) (orElse (firstOf (addressChecks (h .ethernet))) (firstOf (streamChecks n (h .stream)))))
@@ -21,6 +22,11 @@ pub read-then : (n : ℕ) (f : Fields) → firstOf (readChecks n f) ≡
     orElse (firstOf (lengthChecks n)) (orElse (firstOf (headerChecks n (f .header))) (firstOf (blockChecks (f .header .stream) (f .cip))))
 unfolding readChecks lengthChecks headerChecks ethernetChecks avtpChecks addressChecks streamChecks
 read-then n f = then (lengthChecks n) _ tt ∙ rw (then (headerChecks n (f .header)) (blockChecks (f .header .stream) (f .cip)) tt) refl
+
+-- no check of a frame answers 0
+pub frame-numbered : (frame : List ℕ) → T (numbered (frameChecks frame))
+unfolding frameChecks readChecks lengthChecks headerChecks ethernetChecks avtpChecks addressChecks streamChecks blockChecks
+frame-numbered frame = tt
 
 pub long-enough : (n : ℕ) → firstOf (lengthChecks n) ≡ 0 → 42 ≤ n
 unfolding lengthChecks

@@ -17,7 +17,7 @@ use Rattle.stream.specs.declared.Flags.{Flags}
 abbrev noFormat : Format
 noFormat = record { fmt = 0; dbs = 0; «fraction_number» = 0; sph = false }
 
-abbrev noCounts : Counts
+abbrev pub noCounts : Counts
 noCounts = record { frames = 0; «sequence_breaks» = 0; «block_breaks» = 0; «format_changes» = 0; «mr_changes» = 0 }
 
 -- an unused record has every field zero

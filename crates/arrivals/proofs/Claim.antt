@@ -1,0 +1,137 @@
+-- The claim about lists of arrivals, for every start table and for every record lent alone. Assumes nothing.
+use Prim.Native.Nat.{ℕ, zero, suc}
+use mathlib.Core.Path.{_≡_, refl, sym, ap, _∙_, subst, fun-ext}
+use mathlib.Core.Logic.{_≢_}
+use mathlib.Core.Bool.{Bool, true, false, false≢true}
+use mathlib.Core.List.{List, [], _∷_, _++_}
+use mathlib.Core.Option.{some}
+use native.Mathlib.Omega.{arith}
+use lib.Dec.{eqb}
+use lib.ListN.{length, getElem?, length-set}
+use borrow.Author.Tests.{eqb-true, eqb-false, eq-eqb}
+use Rattle.stream.specs.declared.Record.{Record}
+use Rattle.stream.specs.Records.{admitted}
+use Rattle.stream.specs.Answers.{Answer, after, idOf}
+use Rattle.table.specs.Table.{Table, holds, place, at, only, numberWith, receiveBy, receive, receiveAlone}
+use Rattle.arrivals.specs.Arrivals.{Arrival, run, runAlone, isAccepted, ofStream, OneStream, StreamRecord, those, answersTo, replay, swap, Counted, Claim, ListsOfArrivals}
+use Rattle.arrivals.proofs.Places.{and-both, stream-place, place-stream, one-stream, Verdict, refused, accepted, verdict, refused-verdict, accepted-number, number-place, number-any}
+use Rattle.arrivals.proofs.Directed.{directed, run-directed, one-answer-each, length-kept, place-kept, refused-at, as-replay, exchange-answers, exchange-table}
+use Rattle.arrivals.proofs.Counts.{replay-counted}
+
+-- ---- an accepted arrival is accepted at the place of its stream's record
+
+module _ (t : Table) (a : Arrival) where
+  accepted-stream : numberWith t (a .frame) ≡ 0 → (r : Record) × StreamRecord t (idOf (a .frame)) (place (holds (idOf (a .frame))) t) r
+  accepted-stream e = place-stream (idOf (a .frame)) t (number-any t (a .frame) e)
+
+  -- at the place i, where the verdict says so
+  accepted-at : (i : ℕ) → verdict t a ≡ accepted i → (r : Record) × StreamRecord t (idOf (a .frame)) i r
+  accepted-at i p =
+      let n = accepted-number t a i p in
+      let q = number-place t a n in
+      let e : place (holds (idOf (a .frame))) t ≡ i = cc in
+      subst (λ (j : ℕ). (r : Record) × StreamRecord t (idOf (a .frame)) j r) e (accepted-stream n)
+
+  of-stream : (k : ℕ) → numberWith t (a .frame) ≡ 0 → idOf (a .frame) ≡ k → ofStream t k a ≡ true
+  unfolding ofStream
+  of-stream k n e = rw (n, eq-eqb (idOf (a .frame)) k e)
+
+  stream-of : (k : ℕ) → ofStream t k a ≡ true → (numberWith t (a .frame) ≡ 0) × (idOf (a .frame) ≡ k)
+  unfolding ofStream
+  stream-of k e =
+      let p = and-both (eqb (numberWith t (a .frame)) 0) (eqb (idOf (a .frame)) k) e in
+      (eqb-true (numberWith t (a .frame)) 0 (p .0), eqb-true (idOf (a .frame)) k (p .1))
+
+-- ---- a stream's arrivals are those accepted at its record's place
+
+module _ (t : Table) (k i : ℕ) (r : Record) (x : StreamRecord t k i r) where
+  mine : (a : Arrival) → ofStream t k a ≡ true → verdict t a ≡ accepted i
+  mine a e =
+      let p = stream-of t a k e in
+      let q = stream-place k t i r x in
+      number-place t a (p .0) ∙ ap accepted (rw (p .1) (q .1))
+
+  others : (a : Arrival) → ofStream t k a ≡ false → verdict t a ≢ accepted i
+  others a e p =
+      let y = accepted-at t a i p in
+      let z = one-stream t (idOf (a .frame)) k i (y .0) r (y .1) x in
+      let w = of-stream t a k (accepted-number t a i p) z in
+      false≢true (sym e ∙ w)
+
+  stream-replay : (l : List Arrival)
+      → (answersTo (ofStream t k) l ((directed (verdict t) t l) .0) ≡ (replay r (those (ofStream t k) l)) .0)
+      × (getElem? ((directed (verdict t) t l) .1) i ≡ some ((replay r (those (ofStream t k) l)) .1))
+  stream-replay l = as-replay (verdict t) (ofStream t k) i mine others t r l (x .there)
+
+-- ---- over a table
+
+module _ (t : Table) where
+  admitted-stream : (a : Arrival) → isAccepted t a ≡ true → (i : ℕ) × (r : Record) × StreamRecord t (idOf (a .frame)) i r
+  admitted-stream a h =
+      let x = accepted-stream t a (eqb-true (numberWith t (a .frame)) 0 h) in
+      (place (holds (idOf (a .frame))) t, x .0, x .1)
+
+  no-stream : (i : ℕ) → ((k : ℕ) (r : Record) → ¬ StreamRecord t k i r) → (a : Arrival) → verdict t a ≢ accepted i
+  no-stream i h a p = let x = accepted-at t a i p in h (idOf (a .frame)) (x .0) (x .1)
+
+  apart : (a b : Arrival) → ¬ OneStream t a b → (i : ℕ) → verdict t a ≡ accepted i → verdict t b ≡ accepted i → ⊥
+  apart a b h i p q =
+      let x = accepted-at t a i p in
+      let y = accepted-at t b i q in
+      let e = one-stream t (idOf (b .frame)) (idOf (a .frame)) i (y .0) (x .0) (y .1) (x .1) in
+      h (idOf (a .frame), of-stream t a (idOf (a .frame)) (accepted-number t a i p) refl, of-stream t b (idOf (a .frame)) (accepted-number t b i q) e)
+
+  stream-counts : (l : List Arrival) (k i : ℕ) (e : Record) → StreamRecord t k i (admitted k) → getElem? ((directed (verdict t) t l) .1) i ≡ some e
+      → Counted e (answersTo (ofStream t k) l ((directed (verdict t) t l) .0))
+  stream-counts l k i e x p =
+      let q = stream-replay t k i (admitted k) x l in
+      let w = q .1 in
+      let z : e ≡ (replay (admitted k) (those (ofStream t k) l)) .1 = cc in
+      rw (z, q .0) (replay-counted k (those (ofStream t k) l))
+
+  directed-claim : Claim t (directed (verdict t) t)
+  directed-claim =
+      record {
+        one-each = one-answer-each (verdict t) t;
+        same-length = length-kept (verdict t) t;
+        admitted-stream = admitted-stream;
+        stream-answers = λ l k i r x. stream-replay t k i r x l .0;
+        stream-record = λ l k i r x. stream-replay t k i r x l .1;
+        refused-answers = λ l m n a e h. refused-at (verdict t) t l m (suc n) a e (refused-verdict t a n h);
+        other-records = λ l i h. place-kept (verdict t) t l i (no-stream i h);
+        exchange = λ before a b rest h i.
+            (exchange-answers (verdict t) a b rest (apart a b h) t before i, exchange-table (verdict t) a b rest (apart a b h) t before i);
+        counts = stream-counts;
+      }
+
+  over-a-table : Claim t (run t)
+  over-a-table = subst (Claim t) (sym (fun-ext (run-directed t t refl))) directed-claim
+
+-- ---- over a record lent alone, which is a table of one
+
+single : (t : Table) → length t ≡ 1 → only t ∷ [] ≡ t
+single [] e = let z : _≡_ {A = ℕ} 0 1 = e in absurd (omega arith)
+single (r ∷ []) e = refl
+single (r ∷ q ∷ t) e = absurd (omega arith)
+
+one-left : (r : Record) (frame : List ℕ) (L : ℕ) → length ((receive (r ∷ []) frame L) .1) ≡ 1
+unfolding receive
+one-left r frame L = go (numberWith (r ∷ []) frame)
+  where
+    go : (n : ℕ) → length ((receiveBy n (r ∷ []) frame L) .1) ≡ 1
+    go zero = let i = place (holds (idOf frame)) (r ∷ []) in length-set (r ∷ []) i (after (at (r ∷ []) i) frame L)
+    go (suc n) = refl
+
+run-alone : (r : Record) (l : List Arrival) → run (r ∷ []) l ≡ ((runAlone r l) .0, (runAlone r l) .1 ∷ [])
+unfolding run runAlone receiveAlone
+run-alone r [] = refl
+run-alone r (a ∷ l) =
+    let x = receive (r ∷ []) (a .frame) (a .time) in
+    rw (← single (x .1) (one-left r (a .frame) (a .time)), run-alone (only (x .1)) l)
+
+pub lists-of-arrivals : ListsOfArrivals
+lists-of-arrivals =
+    record {
+      over-a-table = over-a-table;
+      over-a-record = λ r. subst (Claim (r ∷ [])) (fun-ext (run-alone r)) (over-a-table (r ∷ []));
+    }

@@ -1,0 +1,4 @@
+pub mod Places
+pub mod Directed
+pub mod Counts
+pub mod Claim

@@ -1,0 +1,209 @@
+-- Places of a list, and what a verdict sees of a table: nothing but which records are in use, and their ids. Assumes nothing.
+use Prim.Native.Nat.{ℕ, zero, suc, _+_, _<_}
+use mathlib.Core.Path.{_≡_, refl, sym, ap, _∙_}
+use mathlib.Core.Logic.{_≢_}
+use mathlib.Core.Bool.{Bool, true, false, not, cond, _&&_, _||_, false≢true}
+use mathlib.Core.List.{List, [], _∷_, _++_, map}
+use mathlib.Core.Option.{Option, none, some}
+use native.Mathlib.Omega.{arith}
+use lib.Dec.{eqb, ltb}
+use lib.ListN.{length, getD, set, getElem?, length-map}
+use lib.Seq.{map-set-same}
+use borrow.Author.Tests.{eqb-true, eq-eqb, not-false}
+use Rattle.frame.specs.Refusals.{Check, _answers_, firstOf}
+use Rattle.frame.specs.Checks.{frameChecks}
+use Rattle.frame.proofs.First.{clear, then, both}
+use Rattle.frame.proofs.Groups.{frame-numbered}
+use Rattle.stream.specs.declared.Record.{Record}
+use Rattle.stream.specs.Records.{unused}
+use Rattle.stream.specs.Answers.{Answer, refusedWith, answerOf, after, idOf}
+use Rattle.stream.proofs.Laws.{after-in-use, after-id}
+use Rattle.table.specs.Table.{Table, holds, any, place, at, receiveChecks, numberWith, receiveBy, receive}
+use Rattle.arrivals.specs.Arrivals.{Arrival, StreamRecord}
+
+-- ---- a list's place
+
+module _ {A : Type 0} where
+  pub at-getD : (l : List A) (i : ℕ) (x d : A) → getElem? l i ≡ some x → getD l i d ≡ x
+  at-getD [] i x d e = cc
+  at-getD (y ∷ l) zero x d e = cc
+  at-getD (y ∷ l) (suc i) x d e = at-getD l i x d e
+
+  pub at-set-same : (l : List A) (i : ℕ) (x y : A) → getElem? l i ≡ some x → getElem? (set l i y) i ≡ some y
+  at-set-same [] i x y e = cc
+  at-set-same (z ∷ l) zero x y e = refl
+  at-set-same (z ∷ l) (suc i) x y e = at-set-same l i x y e
+
+  pub at-set-other : (l : List A) (i j : ℕ) (y : A) → i ≢ j → getElem? (set l j y) i ≡ getElem? l i
+  at-set-other [] i j y h = refl
+  at-set-other (z ∷ l) zero zero y h = absurd (h refl)
+  at-set-other (z ∷ l) zero (suc j) y h = refl
+  at-set-other (z ∷ l) (suc i) zero y h = refl
+  at-set-other (z ∷ l) (suc i) (suc j) y h = at-set-other l i j y (λ e. h (ap suc e))
+
+-- ---- whether a record holds an id
+
+pub and-both : (b c : Bool) → b && c ≡ true → (b ≡ true) × (c ≡ true)
+and-both true c e = (refl, e)
+and-both false c e = absurd (false≢true e)
+
+pub held : (k : ℕ) (r : Record) → r .«in_use» ≡ true → r .id ≡ k → holds k r ≡ true
+held k r u e = rw u (eq-eqb (r .id) k e)
+
+pub held-by : (k : ℕ) (r : Record) → holds k r ≡ true → (r .«in_use» ≡ true) × (r .id ≡ k)
+held-by k r h = let p = and-both (r .«in_use») (eqb (r .id) k) h in (p .0, eqb-true (r .id) k (p .1))
+
+-- ---- the record of a stream is the one at the lowest place that holds its id
+
+module _ (k : ℕ) where
+  abbrev Placed : Bool → Table → ℕ → Type 0
+  Placed b t i = (b || any (holds k) t ≡ true) × (cond b 0 (suc (place (holds k) t)) ≡ i)
+
+  pub stream-place : (t : Table) (i : ℕ) (r : Record) → StreamRecord t k i r → (any (holds k) t ≡ true) × (place (holds k) t ≡ i)
+  unfolding any place
+  stream-place [] i r h = let e = h .there in let z : _≡_ {A = ℕ} 0 1 = cc in absurd (omega arith)
+  stream-place (s ∷ t) zero r h =
+      let e : s ≡ r = let q = h .there in cc in
+      let b : holds k s ≡ true = rw e (held k r (h .in-use) (h .id)) in
+      (rw b, rw b)
+  stream-place (s ∷ t) (suc i) r h =
+      go (stream-place t i r (record { there = h .there; in-use = h .in-use; id = h .id; lowest = λ j q lt. h .lowest (suc j) q (omega arith) })) (holds k s) refl
+    where
+      go : (any (holds k) t ≡ true) × (place (holds k) t ≡ i) → (b : Bool) → holds k s ≡ b → Placed b t (suc i)
+      go ih true e = let p = held-by k s e in absurd (h .lowest 0 s (omega arith) refl (p .0) (p .1))
+      go ih false e = (ih .0, ap suc (ih .1))
+
+  one-higher : (s : Record) (t : Table) (i : ℕ) (r : Record) → holds k s ≡ false → StreamRecord t k i r → StreamRecord (s ∷ t) k (suc i) r
+  one-higher s t i r h x = record { there = x .there; in-use = x .in-use; id = x .id; lowest = low }
+    where
+      low : (j : ℕ) (q : Record) → j < suc i → getElem? (s ∷ t) j ≡ some q → q .«in_use» ≡ true → q .id ≡ k → ⊥
+      low zero q lt e u v =
+          let z : s ≡ q = cc in
+          false≢true (sym h ∙ rw z (held k q u v))
+      low (suc j) q lt e u v = x .lowest j q (omega arith) e u v
+
+  pub place-stream : (t : Table) → any (holds k) t ≡ true → (r : Record) × StreamRecord t k (place (holds k) t) r
+  unfolding any place
+  place-stream [] e = absurd (false≢true e)
+  place-stream (s ∷ t) e = go (place-stream t) (holds k s) refl e
+    where
+      go : (any (holds k) t ≡ true → (r : Record) × StreamRecord t k (place (holds k) t) r) → (b : Bool) → holds k s ≡ b → b || any (holds k) t ≡ true
+          → (r : Record) × StreamRecord (s ∷ t) k (cond b 0 (suc (place (holds k) t))) r
+      go ih true h e =
+          let p = held-by k s h in
+          (s, record { there = refl; in-use = p .0; id = p .1; lowest = λ j x lt. absurd (omega arith) })
+      go ih false h e = let x = ih e in (x .0, one-higher s t (place (holds k) t) (x .0) h (x .1))
+
+-- two streams have two records
+pub one-stream : (t : Table) (k m i : ℕ) (r q : Record) → StreamRecord t k i r → StreamRecord t m i q → k ≡ m
+one-stream t k m i r q x y =
+    let u = x .there in
+    let v = y .there in
+    let e : r ≡ q = cc in
+    sym (x .id) ∙ ap (λ (z : Record). z .id) e ∙ y .id
+
+-- ---- verdicts
+
+-- an arrival is refused with a number, or accepted for the record at a place
+pub data Verdict : Type 0 where
+  refused : ℕ → Verdict
+  accepted : ℕ → Verdict
+
+abbrev pub byNumber : ℕ → ℕ → Verdict
+byNumber zero i = accepted i
+byNumber (suc n) i = refused (suc n)
+
+unfoldable pub verdict : Table → Arrival → Verdict
+verdict t a = byNumber (numberWith t (a .frame)) (place (holds (idOf (a .frame))) t)
+
+-- what is answered for a verdict, and the table afterwards
+unfoldable pub serve : Table → Arrival → Verdict → Answer × Table
+serve t a (refused n) = (refusedWith n, t)
+serve t a (accepted i) = (answerOf (at t i) (a .frame) (a .time), set t i (after (at t i) (a .frame) (a .time)))
+
+pub receive-serve : (t : Table) (a : Arrival) → receive t (a .frame) (a .time) ≡ serve t a (verdict t a)
+unfolding receive serve verdict
+receive-serve t a = go (numberWith t (a .frame))
+  where
+    go : (n : ℕ) → receiveBy n t (a .frame) (a .time) ≡ serve t a (byNumber n (place (holds (idOf (a .frame))) t))
+    go zero = refl
+    go (suc n) = refl
+
+pub refused-verdict : (t : Table) (a : Arrival) (n : ℕ) → numberWith t (a .frame) ≡ suc n → verdict t a ≡ refused (suc n)
+unfolding verdict
+refused-verdict t a n e = rw e
+
+-- where an arrival is accepted, none of the numbers applies, and the place is that of its stream's record
+pub accepted-number : (t : Table) (a : Arrival) (i : ℕ) → verdict t a ≡ accepted i → numberWith t (a .frame) ≡ 0
+unfolding verdict
+accepted-number t a i e = go (numberWith t (a .frame)) e
+  where
+    go : (n : ℕ) → byNumber n (place (holds (idOf (a .frame))) t) ≡ accepted i → n ≡ 0
+    go zero e = refl
+    go (suc n) e = let z : _≡_ {A = ℕ} 0 1 = cc in absurd (omega arith)
+
+pub number-place : (t : Table) (a : Arrival) → numberWith t (a .frame) ≡ 0 → verdict t a ≡ accepted (place (holds (idOf (a .frame))) t)
+unfolding verdict
+number-place t a e = rw e
+
+pub number-any : (t : Table) (frame : List ℕ) → numberWith t frame ≡ 0 → any (holds (idOf frame)) t ≡ true
+unfolding numberWith
+number-any t frame e =
+    let admitted = any (holds (idOf frame)) t in
+    not-false admitted (clear ((not admitted answers 15) ∷ []) tt (last e) .0)
+  where
+    last : firstOf (receiveChecks t frame) ≡ 0 → firstOf ((not (any (holds (idOf frame)) t) answers 15) ∷ []) ≡ 0
+    last e =
+        let p = both _ _ (sym (then ((ltb 64 (length t) answers 20) ∷ []) (frameChecks frame ++ (not (any (holds (idOf frame)) t) answers 15) ∷ []) tt) ∙ e) in
+        both _ _ (sym (then (frameChecks frame) ((not (any (holds (idOf frame)) t) answers 15) ∷ []) (frame-numbered frame)) ∙ p .1) .1
+
+-- ---- a verdict goes by the keys alone, and no call changes a key
+
+-- what a step keeps of a record
+pub key : Record → Bool × ℕ
+key r = (r .«in_use», r .id)
+
+after-key : (r : Record) (frame : List ℕ) (L : ℕ) → key (after r frame L) ≡ key r
+unfolding key
+after-key r frame L i = (after-in-use r frame L i, after-id r frame L i)
+
+module _ (k : ℕ) where
+  holdsKey : Bool × ℕ → Bool
+  holdsKey x = x .0 && eqb (x .1) k
+
+  anyKey : List (Bool × ℕ) → Bool
+  anyKey [] = false
+  anyKey (x ∷ l) = holdsKey x || anyKey l
+
+  placeKey : List (Bool × ℕ) → ℕ
+  placeKey [] = 0
+  placeKey (x ∷ l) = cond (holdsKey x) 0 (suc (placeKey l))
+
+  any-key : (t : Table) → any (holds k) t ≡ anyKey (map key t)
+  unfolding any anyKey holdsKey key
+  any-key [] = refl
+  any-key (r ∷ t) = ap (λ (b : Bool). holds k r || b) (any-key t)
+
+  place-key : (t : Table) → place (holds k) t ≡ placeKey (map key t)
+  unfolding place placeKey holdsKey key
+  place-key [] = refl
+  place-key (r ∷ t) = ap (λ (n : ℕ). cond (holds k r) 0 (suc n)) (place-key t)
+
+module _ (t u : Table) (e : map key t ≡ map key u) where
+  length-same : length t ≡ length u
+  length-same = sym (length-map t key) ∙ ap length e ∙ length-map u key
+
+  any-same : (k : ℕ) → any (holds k) t ≡ any (holds k) u
+  any-same k = any-key k t ∙ ap (anyKey k) e ∙ sym (any-key k u)
+
+  place-same : (k : ℕ) → place (holds k) t ≡ place (holds k) u
+  place-same k = place-key k t ∙ ap (placeKey k) e ∙ sym (place-key k u)
+
+  pub verdict-same : (a : Arrival) → verdict t a ≡ verdict u a
+  unfolding verdict numberWith
+  verdict-same a = rw (length-same, any-same (idOf (a .frame)), place-same (idOf (a .frame)))
+
+pub serve-keys : (t : Table) (a : Arrival) (v : Verdict) → map key ((serve t a v) .1) ≡ map key t
+unfolding serve
+serve-keys t a (refused n) = refl
+serve-keys t a (accepted i) = map-set-same key t i (after (at t i) (a .frame) (a .time)) unused (after-key (at t i) (a .frame) (a .time))

@@ -1,0 +1,7 @@
+// What is claimed of lists of arrivals, over a table and over a record lent alone. There is nothing to run here: `table::receive` and
+// `table::receive_record` are the calls, and their contracts equate them with the functions that the claim is about.
+ghost use Rattle.arrivals.specs.Arrivals.{ListsOfArrivals};
+
+fn lists_of_arrivals()
+    ensures { λ _. ⌜ ListsOfArrivals ⌝ }
+{}
