@@ -1,0 +1,91 @@
+// Presentation times at zero, at both ends of the offset, at the wraps of L and T, and at both ends of the arrival time: each is
+// reckoned and printed.
+use libc::STDOUT_FILENO;
+use presentation::Kind;
+
+fn text(bytes: &[u8]) {
+    io::write_all(STDOUT_FILENO, bytes);
+}
+
+fn number(name: &[u8], n: u64) {
+    text(name);
+    io::print_decimal(STDOUT_FILENO, n);
+}
+
+fn offset(d: i64) {
+    text(b" offset=");
+    if d < 0 {
+        text(b"-");
+    }
+    io::print_decimal(STDOUT_FILENO, presentation::magnitude(d));
+}
+
+fn kind(k: Kind) {
+    match k {
+        Kind::None => text(b" none"),
+        Kind::Cut => text(b" cut"),
+        Kind::Outside => text(b" outside"),
+        Kind::Late => text(b" late"),
+        Kind::Ahead => text(b" ahead"),
+    }
+}
+
+fn show(arrival_time: u64, stamp: u32) {
+    let timing = presentation::reckon(arrival_time, stamp);
+    number(b"L=", arrival_time);
+    number(b" T=", stamp as u64);
+    let k = timing.kind;
+    kind(k);
+    offset(timing.offset);
+    number(b" time=", timing.time);
+    text(b"\n");
+}
+
+// A frame with SPH 0 or 1, tv 0 or 1, and AVTP timestamp 1,500: which stamp is read.
+fn show_stamp(sph: bool, tv: bool, payload: &[u8]) {
+    let timing = presentation::judge_time(1000, sph, tv, 1500, payload);
+    number(b"SPH=", if sph { 1 } else { 0 });
+    number(b" tv=", if tv { 1 } else { 0 });
+    number(b" payload=", payload.len() as u64);
+    let k = timing.kind;
+    kind(k);
+    offset(timing.offset);
+    number(b" time=", timing.time);
+    text(b"\n");
+}
+
+fn show_marked() {
+    show(4_294_967_290, 10);
+    show(4_294_967_306, 4_294_967_290);
+    show(10, 4_294_967_290);
+    show(5, 5);
+}
+
+fn show_ends() {
+    show(0, 0);
+    show(0, 2_147_483_647);
+    show(0, 2_147_483_648);
+    show(0, 4_294_967_295);
+    show(2_147_483_648, 0);
+    show(2_147_483_647, 4_294_967_295);
+    show(u64::MAX, 0);
+    show(u64::MAX, 4_294_967_295);
+    show(u64::MAX, 2_147_483_647);
+    show(u64::MAX - 2_147_483_647, 4_294_967_295);
+    show(u64::MAX - 2_147_483_646, 0);
+}
+
+fn show_stamps() {
+    show_stamp(false, false, b"");
+    show_stamp(false, true, b"");
+    show_stamp(true, true, b"");
+    show_stamp(true, false, b"\x00\x00\x0b");
+    show_stamp(true, false, b"\x00\x00\x0b\xb8");
+    show_stamp(true, true, b"\x00\x00\x03\x00\xff\xff\xff\xff");
+}
+
+fn main() {
+    show_marked();
+    show_ends();
+    show_stamps();
+}
