@@ -1,0 +1,72 @@
+-- What holds of a write that no check refuses. Assumes nothing.
+use Prim.Native.Nat.{ℕ, _+_, _≤_}
+use mathlib.Core.Path.{_≡_, sym, subst}
+use mathlib.Core.Bool.{true, false, _&&_}
+use mathlib.Core.List.{[], _∷_}
+use borrow.Author.Tests.{ltb-false, not-false}
+use lib.Dec.{T}
+use mir.Facts.{and-yes}
+use Rattle.wire.specs.Bits.{Fit}
+use Rattle.frame.specs.Layout.{vlanRow, packetRow, sourceRow, fractionRow, formatRow}
+use Rattle.frame.specs.Checks.{misaddressed, partialBlock}
+use Rattle.frame.proofs.First.{Clear, clear}
+use Rattle.writer.specs.declared.given.Given.{Given}
+use Rattle.writer.specs.Frames.{vlanValues, packetValues, sourceValues, fractionValues, formatValues}
+use Rattle.writer.specs.Writing.{fits, addressRow, addressFits, originFits, formatFits, fieldsFit, writeChecks, writeRefusal}
+use Rattle.writer.proofs.Fits.{fit}
+
+-- each value is within the bits of its field
+pub record Fitting (g : Given) : Type 0 where
+  pub addresses : Fit addressRow (g .address .destination ∷ g .address .source ∷ [])
+  pub vlan : Fit vlanRow (vlanValues (g .address))
+  pub packet : Fit packetRow (packetValues (g .origin))
+  pub source : Fit sourceRow (sourceValues (g .format))
+  pub fraction : Fit fractionRow (fractionValues (g .format))
+  pub format : Fit formatRow (formatValues (g .format))
+
+pub record Accepted (g : Given) (n room : ℕ) : Type 0 where
+  pub addressed : misaddressed (g .address .destination) (g .address .source) ≡ false
+  pub fits : fieldsFit g ≡ true
+  pub whole : partialBlock n (g .format .dbs) ≡ false
+  pub short : n ≤ 1468
+  pub output : 50 + n ≤ room
+
+pub fitting : (g : Given) → fieldsFit g ≡ true → Fitting g
+unfolding fieldsFit addressFits originFits formatFits
+fitting g e =
+    let a = fits addressRow (g .address .destination ∷ g .address .source ∷ []) in
+    let v = fits vlanRow (vlanValues (g .address)) in
+    let p = fits packetRow (packetValues (g .origin)) in
+    let s = fits sourceRow (sourceValues (g .format)) in
+    let q = fits fractionRow (fractionValues (g .format)) in
+    let f = fits formatRow (formatValues (g .format)) in
+    let all = and-yes (a && v && p) (s && q && f) (subst T (sym e) tt) in
+    let front = and-yes (a && v) p (all .0) in
+    let address = and-yes a v (front .0) in
+    let last = and-yes (s && q) f (all .1) in
+    let cip = and-yes s q (last .0) in
+    record {
+      addresses = fit addressRow (g .address .destination ∷ g .address .source ∷ []) (address .0);
+      vlan = fit vlanRow (vlanValues (g .address)) (address .1);
+      packet = fit packetRow (packetValues (g .origin)) (front .1);
+      source = fit sourceRow (sourceValues (g .format)) (cip .0);
+      fraction = fit fractionRow (fractionValues (g .format)) (cip .1);
+      format = fit formatRow (formatValues (g .format)) (last .1);
+    }
+
+module _ (g : Given) (n room : ℕ) (ok : writeRefusal g n room ≡ 0) where
+  clears : Clear (writeChecks g n room)
+  unfolding writeRefusal writeChecks
+  clears = clear (writeChecks g n room) tt ok
+
+  pub accepted : Accepted g n room
+  unfolding writeChecks
+  accepted =
+      let c = clears in
+      record {
+        addressed = c .0;
+        fits = not-false (fieldsFit g) (c .1 .0);
+        whole = c .1 .1 .0;
+        short = ltb-false 1468 n (c .1 .1 .1 .0);
+        output = ltb-false room (50 + n) (c .1 .1 .1 .1 .0);
+      }

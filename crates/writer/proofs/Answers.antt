@@ -1,0 +1,34 @@
+-- What the verdict of the checks says of a write's answer and of the output. Assumes nothing.
+use Prim.Native.Nat.{ℕ, _+_}
+use mathlib.Core.Path.{_≡_, refl, sym, ap, _∙_}
+use mathlib.Core.List.{List, _++_}
+use lib.ListN.{length, drop}
+use Rattle.frame.specs.declared.refusal.Refusal.{Refusal}
+use Rattle.frame.specs.Refusals.{numberOf}
+use Rattle.frame.proofs.First.{positive}
+use Rattle.writer.specs.declared.Sender.{Sender}
+use Rattle.writer.specs.declared.Written.the-variants.{Sent, Refused}
+use Rattle.writer.specs.declared.checks.Verdict.{Verdict}
+use Rattle.writer.specs.declared.checks.Verdict.the-variants as verdict
+use Rattle.writer.specs.declared.given.Given.{Given}
+use Rattle.writer.specs.Frames.{frameOf}
+use Rattle.writer.specs.Verdicts.{verdictNumber}
+use Rattle.writer.specs.Writing.{writeRefusal, next, told, writing, output}
+
+module _ (s : Sender) (g : Given) (payload out : List ℕ) where
+  -- the answer and the output of a write that is refused, and of one that is not
+  refuses : (r : Refusal) → numberOf r ≡ writeRefusal g (length payload) (length out) → (told (Refused r s) ≡ writing s g payload (length out)) × (out ≡ output s g payload out)
+  unfolding writing output
+  refuses r e = let p = positive r in rw (← e, p .1) (refl, refl)
+
+  pub sends : {t : Sender} {exit : List ℕ} → writeRefusal g (length payload) (length out) ≡ 0 → t ≡ next s g payload → exit ≡ frameOf s g payload ++ drop (50 + length payload) out
+      → (told (Sent t) ≡ writing s g payload (length out)) × (exit ≡ output s g payload out)
+  unfolding writing output
+  sends e f h = rw (e, f, h) (refl, refl)
+
+  module _ {v : Verdict} (checked : verdictNumber v ≡ writeRefusal g (length payload) (length out)) where
+    pub refused : {r : Refusal} → v ≡ verdict.Refused r → (told (Refused r s) ≡ writing s g payload (length out)) × (out ≡ output s g payload out)
+    refused {r} z = refuses r (ap verdictNumber (sym z) ∙ checked)
+
+    pub allowed : v ≡ verdict.Allowed → writeRefusal g (length payload) (length out) ≡ 0
+    allowed z = sym checked ∙ ap verdictNumber z

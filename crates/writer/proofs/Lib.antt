@@ -1,0 +1,10 @@
+pub mod Stores
+pub mod Fits
+pub mod Asked
+pub mod Accepted
+pub mod Answers
+pub mod Parts
+pub mod RowsBack
+pub mod ReadBack
+pub mod WriteBack
+pub mod Gapless

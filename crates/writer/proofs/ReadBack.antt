@@ -1,0 +1,137 @@
+-- Reading what was written gives what was given. Assumes nothing.
+use Prim.Native.Nat.{ℕ, _+_, _-_, _≤_}
+use mathlib.Core.Path.{_≡_, refl, ap, _∙_}
+use mathlib.Core.Bool.{true, false}
+use mathlib.Core.List.{List, _++_}
+use native.Mathlib.Omega.{arith}
+use borrow.Author.Tests.{le-ltb}
+use lib.ListN.{length, drop, length-append}
+use lib.Seq.{take-append-seam}
+use Rattle.wire.specs.Bits.{Fit}
+use Rattle.wire.proofs.Numbers.{number-of}
+use Rattle.frame.specs.Layout.{vlanRow, validRow, uncertainRow, packetRow, sourceRow, fractionRow, formatRow, ethernetOf, avtpOf, streamOf, cipOf, headerOf, fieldsOf}
+use Rattle.frame.specs.Checks.{lengthChecks, ethernetChecks, avtpChecks, addressChecks, streamChecks, blockChecks, headerChecks, readChecks, frameChecks, refusal}
+use Rattle.frame.specs.Reading.{reading, payloadOf}
+use Rattle.frame.proofs.First.{none}
+use Rattle.writer.specs.declared.Sender.{Sender}
+use Rattle.writer.specs.declared.given.Given.{Given}
+use Rattle.writer.specs.Frames.{vlanValues, validValues, uncertainValues, packetValues, sourceValues, fractionValues, formatValues, ethernetBytes, avtpBytes, streamBytes, sourceBytes, formatBytes, headerBytes, frameOf}
+use Rattle.writer.specs.Writing.{writeRefusal}
+use Rattle.writer.specs.ReadBack.{SenderTyped, GivenTyped, fieldsWritten}
+use Rattle.writer.proofs.Accepted.{Accepted, accepted, fitting}
+use Rattle.writer.proofs.RowsBack.{bit-lt, row-back, flag-back}
+
+-- one fact, and then others
+infixr 20 _also_
+_also_ : {A B : Type 0} → A → B → A × B
+a also b = (a, b)
+
+pub size : (s : Sender) (g : Given) (p : List ℕ) → length (frameOf s g p) ≡ 50 + length p
+unfolding ethernetBytes avtpBytes streamBytes sourceBytes formatBytes headerBytes frameOf
+size s g p = omega arith
+
+behind-header : (s : Sender) (g : Given) (p padding : List ℕ) → drop 50 (frameOf s g p ++ padding) ≡ p ++ padding
+unfolding ethernetBytes avtpBytes streamBytes sourceBytes formatBytes headerBytes frameOf
+behind-header s g p padding = refl
+
+module _ (s : Sender) (g : Given) (p padding : List ℕ) (room : ℕ) (sender : SenderTyped s) (given : GivenTyped g) (ok : writeRefusal g (length p) room ≡ 0) where
+  ready : Accepted g (length p) room
+  ready = accepted g (length p) room ok
+
+  valid-fit : Fit validRow (validValues (g .marks))
+  valid-fit =
+      let mr = bit-lt (g .marks .mr) in
+      let gv = bit-lt (g .marks .gv) in
+      let tv = bit-lt (g .marks .tv) in
+      omega arith
+
+  uncertain-fit : Fit uncertainRow (uncertainValues (g .marks))
+  uncertain-fit = let tu = bit-lt (g .marks .tu) in omega arith
+
+  pub fields-back : fieldsOf (frameOf s g p ++ padding) ≡ fieldsWritten s g (length p)
+  unfolding ethernetOf avtpOf streamOf cipOf headerOf fieldsOf ethernetBytes avtpBytes streamBytes sourceBytes formatBytes headerBytes frameOf fieldsWritten
+  fields-back =
+      let fit = fitting g (ready .fits) in
+      let vlan = row-back 2 vlanRow (vlanValues (g .address)) (fit .vlan) refl in
+      let marks = flag-back 1 validRow (validValues (g .marks)) valid-fit refl in
+      let packet = row-back 2 packetRow (packetValues (g .origin)) (fit .packet) refl in
+      let fraction = fractionValues (g .format) in
+      λ i. record {
+        header = record {
+          ethernet = record {
+            destination = number-of 6 (g .address .destination) (fit .addresses .0) i;
+            source = number-of 6 (g .address .source) (fit .addresses .1 .0) i;
+            tpid = 0x8100;
+            pcp = vlan 0 i;
+            cfi = flag-back 2 vlanRow (vlanValues (g .address)) (fit .vlan) refl 1 false refl i;
+            vid = vlan 2 i;
+            ethertype = 0x22F0;
+          };
+          avtp = record {
+            cd = false;
+            subtype = 0;
+            sv = marks 0 true refl i;
+            version = row-back 1 validRow (validValues (g .marks)) valid-fit refl 1 i;
+            mr = marks 2 (g .marks .mr) refl i;
+            gv = marks 4 (g .marks .gv) refl i;
+            tv = marks 5 (g .marks .tv) refl i;
+            sequence = number-of 1 (s .sequence) (sender .sequence) i;
+            tu = flag-back 1 uncertainRow (uncertainValues (g .marks)) uncertain-fit refl 1 (g .marks .tu) refl i;
+          };
+          stream = record {
+            id = number-of 8 (g .origin .id) (given .id) i;
+            timestamp = number-of 4 (g .origin .timestamp) (given .timestamp) i;
+            «gateway_info» = number-of 4 (g .origin .«gateway_info») (given .gateway-info) i;
+            «data_length» = number-of 2 (length p + 8) (omega (arith, ready .short)) i;
+            tag = packet 0 i;
+            channel = packet 1 i;
+            sy = packet 3 i;
+          };
+        };
+        cip = record {
+          sid = row-back 1 sourceRow (sourceValues (g .format)) (fit .source) refl 1 i;
+          dbs = number-of 1 (g .format .dbs) (given .dbs) i;
+          «fraction_number» = row-back 1 fractionRow fraction (fit .fraction) refl 0 i;
+          qpc = row-back 1 fractionRow fraction (fit .fraction) refl 1 i;
+          sph = flag-back 1 fractionRow fraction (fit .fraction) refl 2 (g .format .sph) refl i;
+          dbc = number-of 1 (s .dbc) (sender .dbc) i;
+          fmt = row-back 1 formatRow (formatValues (g .format)) (fit .format) refl 1 i;
+          fdf = number-of 1 (g .format .fdf) (given .fdf) i;
+          «low_half» = number-of 2 (g .format .«low_half») (given .low-half) i;
+        };
+      }
+
+  module _ (short : length (frameOf s g p ++ padding) ≤ 1518) where
+    pub refusal-back : refusal (frameOf s g p ++ padding) ≡ 0
+    unfolding lengthChecks ethernetChecks avtpChecks addressChecks streamChecks blockChecks headerChecks readChecks frameChecks refusal fieldsWritten
+    refusal-back =
+        let n = length (frameOf s g p ++ padding) in
+        let long : n ≡ 50 + length p + length padding = length-append (frameOf s g p) padding ∙ ap (λ (k : ℕ). k + length padding) (size s g p) in
+        let cip : length p + 8 - 8 ≡ length p = omega arith in
+        rw fields-back
+        (none (readChecks n (fieldsWritten s g (length p)))
+        (le-ltb n 42 (omega arith)
+        also le-ltb 1518 n short
+        also refl
+        also refl
+        also refl
+        also refl
+        also refl
+        also refl
+        also refl
+        also ready .addressed
+        also le-ltb (n - 42) (length p + 8) (omega arith)
+        also refl
+        also le-ltb (length p + 8) 8 (omega arith)
+        also rw cip (ready .whole)
+        also tt))
+
+    pub reading-back : reading (frameOf s g p ++ padding) ≡ record { number = 0; fields = fieldsWritten s g (length p) }
+    unfolding reading
+    reading-back = rw (refusal-back, fields-back)
+
+    pub payload-back : payloadOf (frameOf s g p ++ padding) ≡ p
+    unfolding payloadOf fieldsWritten
+    payload-back =
+        let cip : length p + 8 - 8 ≡ length p = omega arith in
+        rw (refusal-back, fields-back, cip, behind-header s g p padding) (take-append-seam p padding)

@@ -1,0 +1,6 @@
+pub mod Frames
+pub mod Writing
+pub mod Verdicts
+pub mod ReadBack
+pub mod WriteBack
+pub mod Successive

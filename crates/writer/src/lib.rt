@@ -1,0 +1,69 @@
+// Sending: frames written for one sender, with the next sequence number and block count.
+mod checks;
+pub mod given;
+mod output;
+mod rows;
+
+use checks::Verdict;
+use frame::refusal::Refusal;
+use given::Given;
+ghost use mathlib.Core.Path.{_≡_};
+ghost use Prim.Native.Nat.{_≤_};
+ghost use lib.ListN.{length};
+ghost use Rattle.writer.specs.ReadBack.{ReadBack};
+ghost use Rattle.writer.specs.Successive.{Successive};
+ghost use Rattle.writer.specs.WriteBack.{WriteBack};
+ghost use Rattle.writer.specs.Writing.{next, told, writing, output};
+
+// The next sequence number and block count.
+pub struct Sender {
+    pub sequence: u8,
+    pub dbc: u8,
+}
+
+pub enum Written {
+    // the sender moved on
+    Sent(Sender),
+    // the sender as it was
+    Refused(Refusal, Sender),
+}
+
+// The sender after a frame with this payload.
+fn next(sender: Sender, given: Given, payload: &[u8]) -> Sender
+    requires { ⌜ length (now payload) ≤ 1468 ⌝ }
+    ensures { λ r. ⌜ r ≡ next sender given (now (payload .entry)) ⌝ }
+{
+    let blocks = frame::blocks(payload, given.format.dbs);
+    Sender {
+        sequence: ((sender.sequence as usize + 1) % 256) as u8,
+        dbc: ((sender.dbc as usize + blocks) % 256) as u8,
+    }
+}
+
+// Writes a frame at the front of `out` and moves the sender on; or refuses, and changes nothing.
+pub fn write(sender: Sender, given: Given, payload: &[u8], out: &mut [u8]) -> Written
+    ensures { λ r. ⌜ told r ≡ writing sender given (now (payload .entry)) (length (now (out .entry))) ⌝ }
+    ensures { λ _. ⌜ now (out .exit) ≡ output sender given (now (payload .entry)) (now (out .entry)) ⌝ }
+{
+    let verdict = checks::check(given, payload.len(), out.len());
+    if let Verdict::Refused(refusal) = verdict {
+        return Written::Refused(refusal, sender);
+    }
+    output::put_frame(sender, given, payload, out);
+    Written::Sent(next(sender, given, payload))
+}
+
+// What is written is read back as it was given.
+fn read_back()
+    ensures { λ _. ⌜ ReadBack ⌝ }
+{}
+
+// What was read can be written, and is the same bytes.
+fn write_back()
+    ensures { λ _. ⌜ WriteBack ⌝ }
+{}
+
+// One sender's frames follow each other without a gap.
+fn successive()
+    ensures { λ _. ⌜ Successive ⌝ }
+{}

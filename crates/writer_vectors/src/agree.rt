@@ -1,0 +1,64 @@
+// Does a frame that was read back hold what was given?
+use frame::layout::Avtp;
+use frame::layout::Cip;
+use frame::layout::Ethernet;
+use frame::layout::Fields;
+use frame::layout::Stream;
+use writer::Sender;
+use writer::given::Address;
+use writer::given::Format;
+use writer::given::Given;
+use writer::given::Marks;
+use writer::given::Origin;
+
+fn ethernet(e: Ethernet, a: Address) -> bool {
+    (e.destination == a.destination)
+        & (e.source == a.source)
+        & (e.tpid == 0x8100)
+        & (e.pcp == a.pcp)
+        & !e.cfi
+        & (e.vid == a.vid)
+        & (e.ethertype == 0x22f0)
+}
+
+fn avtp(a: Avtp, sequence: u8, m: Marks) -> bool {
+    !a.cd
+        & (a.subtype == 0)
+        & a.sv
+        & (a.version == 0)
+        & (a.mr == m.mr)
+        & (a.gv == m.gv)
+        & (a.tv == m.tv)
+        & (a.sequence == sequence)
+        & (a.tu == m.tu)
+}
+
+fn stream(s: Stream, o: Origin, n: usize) -> bool {
+    (s.id == o.id)
+        & (s.timestamp == o.timestamp)
+        & (s.gateway_info == o.gateway_info)
+        & (s.data_length as usize == n)
+        & (s.tag == 1)
+        & (s.channel == o.channel)
+        & (s.sy == o.sy)
+}
+
+fn cip(c: Cip, f: Format, dbc: u8) -> bool {
+    (c.sid == f.sid)
+        & (c.dbs == f.dbs)
+        & (c.fraction_number == f.fraction_number)
+        & (c.qpc == f.qpc)
+        & (c.sph == f.sph)
+        & (c.dbc == dbc)
+        & (c.fmt == f.fmt)
+        & (c.fdf == f.fdf)
+        & (c.low_half == f.low_half)
+}
+
+// `data_length` is what stream_data_length has to be.
+pub(crate) fn fields(read: Fields, sender: Sender, given: Given, data_length: usize) -> bool {
+    ethernet(read.header.ethernet, given.address)
+        & avtp(read.header.avtp, sender.sequence, given.marks)
+        & stream(read.header.stream, given.origin, data_length)
+        & cip(read.cip, given.format, sender.dbc)
+}
