@@ -32,7 +32,7 @@ module _ (t : Table) (a : Arrival) where
       let e : place (holds (idOf (a .frame))) t ≡ i = cc in
       subst (λ (j : ℕ). (r : Record) × StreamRecord t (idOf (a .frame)) j r) e (accepted-stream n)
 
-  of-stream : (k : ℕ) → numberWith t (a .frame) ≡ 0 → idOf (a .frame) ≡ k → ofStream t k a ≡ true
+  pub of-stream : (k : ℕ) → numberWith t (a .frame) ≡ 0 → idOf (a .frame) ≡ k → ofStream t k a ≡ true
   unfolding ofStream
   of-stream k n e = rw (n, eq-eqb (idOf (a .frame)) k e)
 
@@ -104,7 +104,7 @@ module _ (t : Table) where
         counts = stream-counts;
       }
 
-  over-a-table : Claim t (run t)
+  pub over-a-table : Claim t (run t)
   over-a-table = subst (Claim t) (sym (fun-ext (run-directed t t refl))) directed-claim
 
 -- ---- over a record lent alone, which is a table of one

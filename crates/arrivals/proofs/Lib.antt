@@ -2,3 +2,4 @@ pub mod Places
 pub mod Directed
 pub mod Counts
 pub mod Claim
+pub mod Listener

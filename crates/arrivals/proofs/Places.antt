@@ -73,7 +73,7 @@ module _ (k : ℕ) where
       go ih true e = let p = held-by k s e in absurd (h .lowest 0 s (omega arith) refl (p .0) (p .1))
       go ih false e = (ih .0, ap suc (ih .1))
 
-  one-higher : (s : Record) (t : Table) (i : ℕ) (r : Record) → holds k s ≡ false → StreamRecord t k i r → StreamRecord (s ∷ t) k (suc i) r
+  pub one-higher : (s : Record) (t : Table) (i : ℕ) (r : Record) → holds k s ≡ false → StreamRecord t k i r → StreamRecord (s ∷ t) k (suc i) r
   one-higher s t i r h x = record { there = x .there; in-use = x .in-use; id = x .id; lowest = low }
     where
       low : (j : ℕ) (q : Record) → j < suc i → getElem? (s ∷ t) j ≡ some q → q .«in_use» ≡ true → q .id ≡ k → ⊥

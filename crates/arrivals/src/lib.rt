@@ -1,7 +1,13 @@
 // What is claimed of lists of arrivals, over a table and over a record lent alone. There is nothing to run here: `table::receive` and
 // `table::receive_record` are the calls, and their contracts equate them with the functions that the claim is about.
 ghost use Rattle.arrivals.specs.Arrivals.{ListsOfArrivals};
+ghost use Rattle.arrivals.specs.Listener.{Listener};
 
 fn lists_of_arrivals()
     ensures { λ _. ⌜ ListsOfArrivals ⌝ }
+{}
+
+// A listener that has newly admitted a stream raises no sequence or block flag for one sender's successive frames.
+fn sender_heard()
+    ensures { λ _. ⌜ Listener ⌝ }
 {}

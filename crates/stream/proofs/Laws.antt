@@ -1,14 +1,16 @@
 -- What the crates above need of a step. Assumes nothing.
-use Prim.Native.Nat.{ℕ}
-use mathlib.Core.Path.{_≡_, refl, sym, ap}
-use mathlib.Core.Bool.{true}
+use Prim.Native.Nat.{ℕ, _+_, _%_}
+use mathlib.Core.Path.{_≡_, refl, sym, ap, _∙_}
+use mathlib.Core.Logic.{_⊎_, inl, inr, ⊎-elim}
+use mathlib.Core.Bool.{Bool, true, false, not, _&&_}
 use mathlib.Core.List.{List}
+use borrow.Author.Tests.{eq-eqb}
 use Rattle.frame.specs.Layout.{fieldsOf}
 use Rattle.frame.specs.Checks.{refusal}
-use Rattle.frame.specs.Reading.{payloadOf, dataOf}
+use Rattle.frame.specs.Reading.{payloadOf, dataOf, blocksOf}
 use Rattle.frame.proofs.Answers.{data-payload}
 use Rattle.stream.specs.declared.Record.{Record}
-use Rattle.stream.specs.Records.{noCounts, admitted, bump, countsAfter, recordAfter}
+use Rattle.stream.specs.Records.{noCounts, admitted, flagsOf, bump, countsAfter, recordAfter}
 use Rattle.stream.specs.Step.{stepped, served}
 use Rattle.stream.specs.Answers.{stepOf, answerOf, after, told}
 
@@ -57,3 +59,33 @@ module _ (r : Record) (frame : List ℕ) (L : ℕ) (accepted : refusal frame ≡
   pub served-answer : told (served r (fieldsOf frame) frame L .receipt) (payloadOf frame) ≡ answerOf r frame L
   unfolding served answerOf stepOf
   served-answer = rw (data-payload frame accepted)
+
+-- what a record expects of the next frame: this sequence number and block count, or anything where no frame has been seen
+abbrev pub Expects : Record → ℕ → ℕ → Type 0
+Expects r sequence dbc = (r .seen ≡ false) ⊎ (((r .sequence + 1) % 256 ≡ sequence) × (r .«next_dbc» ≡ dbc))
+
+pub expects-any : (k sequence dbc : ℕ) → Expects (admitted k) sequence dbc
+unfolding admitted
+expects-any k sequence dbc = inl refl
+
+module _ (r : Record) (frame : List ℕ) (L : ℕ) where
+  -- a frame with the numbers that are expected breaks neither sequence nor block count
+  pub no-breaks : Expects r (fieldsOf frame .header .avtp .sequence) (fieldsOf frame .cip .dbc)
+      → (answerOf r frame L .flags .sequence ≡ false) × (answerOf r frame L .flags .block ≡ false)
+  unfolding answerOf stepOf stepped flagsOf
+  no-breaks =
+      ⊎-elim
+      (λ new. (rw new, rw new))
+      (λ same. (
+        ap (λ (b : Bool). r .seen && not b) (eq-eqb _ _ (sym (same .0))) ∙ and-false (r .seen),
+        ap (λ (b : Bool). r .seen && not b) (eq-eqb _ _ (sym (same .1))) ∙ and-false (r .seen),
+      ))
+    where
+      and-false : (b : Bool) → b && false ≡ false
+      and-false true = refl
+      and-false false = refl
+
+  -- and after it the next frame is expected to follow
+  pub expects-next : Expects (after r frame L) ((fieldsOf frame .header .avtp .sequence + 1) % 256) ((fieldsOf frame .cip .dbc + blocksOf (payloadOf frame) (fieldsOf frame .cip .dbs)) % 256)
+  unfolding after stepOf stepped recordAfter
+  expects-next = inr (refl, refl)

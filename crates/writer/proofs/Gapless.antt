@@ -16,7 +16,7 @@ use Rattle.writer.specs.WriteBack.{senderOf}
 use Rattle.writer.specs.Successive.{Call, sent, successive, CallsTyped, Received, Gapless, after}
 use Rattle.writer.proofs.ReadBack.{fields-back, refusal-back, payload-back}
 
-next-typed : (s : Sender) (g : Given) (payload : List ℕ) → SenderTyped (next s g payload)
+pub next-typed : (s : Sender) (g : Given) (payload : List ℕ) → SenderTyped (next s g payload)
 unfolding next
 next-typed s g payload = record { sequence = mod-lt (s .sequence + 1) (omega arith); dbc = mod-lt (s .dbc + blocksOf payload (g .format .dbs)) (omega arith) }
 

@@ -1,0 +1,170 @@
+-- A newly admitted listener of one sender's successive frames raises no sequence or block flag. Assumes nothing.
+use Prim.Native.Nat.{ℕ, zero, suc, _+_, _%_, _≤_, _<_}
+use mathlib.Core.Path.{_≡_, refl, sym, ap, _∙_, subst}
+use mathlib.Core.Bool.{Bool, true, false, not, cond, _||_, false≢true}
+use mathlib.Core.List.{List, [], _∷_, _++_}
+use mathlib.Core.Option.{some}
+use native.Mathlib.Omega.{arith}
+use borrow.Author.Tests.{ltb-false, le-ltb, not-false}
+use lib.Dec.{ltb}
+use lib.ListN.{length, drop, set, getElem?, length-set}
+use Rattle.frame.specs.declared.layout.Fields.{Fields}
+use Rattle.frame.specs.Layout.{fieldsOf}
+use Rattle.frame.specs.Refusals.{Check, _answers_, firstOf}
+use Rattle.frame.specs.Checks.{frameChecks, refusal}
+use Rattle.frame.proofs.First.{clear, then, orElse}
+use Rattle.frame.proofs.Groups.{frame-numbered}
+use Rattle.writer.specs.declared.Sender.{Sender}
+use Rattle.writer.specs.Frames.{frameOf}
+use Rattle.writer.specs.Writing.{writeRefusal, next, outcome, writing}
+use Rattle.writer.specs.ReadBack.{SenderTyped, GivenTyped, fieldsWritten}
+use Rattle.writer.specs.WriteBack.{senderOf}
+use Rattle.writer.specs.Successive as sending
+use Rattle.writer.specs.Successive.{Call, sent, successive, CallsTyped, Received, Gapless}
+use Rattle.writer.proofs.ReadBack.{fields-back}
+use Rattle.writer.proofs.Gapless.{next-typed, gapless}
+use Rattle.stream.specs.declared.Record.{Record}
+use Rattle.stream.specs.Records.{admitted}
+use Rattle.stream.specs.Answers.{Answer, answerOf, after, idOf}
+use Rattle.stream.proofs.Laws.{Expects, expects-any, no-breaks, expects-next}
+use Rattle.table.specs.Table.{Table, holds, isUnused, any, place, admitChecks, changed, admit, receiveChecks, numberWith}
+use Rattle.arrivals.specs.Arrivals.{Arrival, run, ofStream, StreamRecord, those, answersTo, replay}
+use Rattle.arrivals.specs.Listener.{OneId, Unbroken, frames, Listener}
+use Rattle.arrivals.proofs.Places.{stream-place, one-higher}
+use Rattle.arrivals.proofs.Claim.{of-stream, over-a-table}
+
+-- ---- the frames of a sender carry the id
+
+abbrev OfId : ℕ → List (List ℕ) → Type 0
+OfId k [] = Unit {0}
+OfId k (f ∷ fs) = (idOf f ≡ k) × OfId k fs
+
+-- a call that is answered n, where the frames of the calls after it carry the id
+module _ (k : ℕ) (s : Sender) (c : Call) (cs : List Call) (sender : SenderTyped s) (given : GivenTyped (c .given)) (one : c .given .origin .id ≡ k)
+    (later : (t : Sender) → SenderTyped t → (fs : List (List ℕ)) → Received (successive t cs) fs → OfId k fs) where
+  one-id : (n : ℕ) → writeRefusal (c .given) (length (c .payload)) (c .room) ≡ n → (fs : List (List ℕ))
+      → (let a = outcome n s (next s (c .given) (c .payload)) in Received (sent (a .number) (frameOf s (c .given) (c .payload)) ++ successive (a .sender) cs) fs)
+      → OfId k fs
+  unfolding idOf fieldsWritten
+  one-id zero e [] h = absurd h
+  one-id zero e (f ∷ fs) h =
+      let g = c .given in
+      let p = c .payload in (
+        ap idOf (h .0 .1) ∙ ap (λ (x : Fields). x .header .stream .id) (fields-back s g p (h .0 .0) (c .room) sender given e) ∙ one,
+        later (next s g p) (next-typed s g p) fs (h .1),
+      )
+  one-id (suc n) e fs h = later s sender fs h
+
+sent-ids : (k : ℕ) (s : Sender) (calls : List Call) → SenderTyped s → CallsTyped calls → OneId k calls → (fs : List (List ℕ)) → Received (successive s calls) fs → OfId k fs
+unfolding successive writing
+sent-ids k s [] sender given one [] h = tt
+sent-ids k s [] sender given one (f ∷ fs) h = absurd h
+sent-ids k s (c ∷ cs) sender given one fs h =
+    one-id k s c cs sender (given .0) (one .0) (λ t typed rest. sent-ids k t cs typed (given .1) (one .1) rest) (writeRefusal (c .given) (length (c .payload)) (c .room)) refl fs h
+
+-- from any one of them on
+ids-drop : (k n : ℕ) (fs : List (List ℕ)) → OfId k fs → OfId k (drop n fs)
+ids-drop k zero fs h = h
+ids-drop k (suc n) [] h = tt
+ids-drop k (suc n) (f ∷ fs) h = ids-drop k n fs (h .1)
+
+gapless-drop : (n : ℕ) (s : Sender) (fs : List (List ℕ)) → Gapless s fs → (t : Sender) × Gapless t (drop n fs)
+gapless-drop zero s fs h = (s, h)
+gapless-drop (suc n) s [] h = (s, tt)
+gapless-drop (suc n) s (f ∷ fs) h = gapless-drop n (sending.after f) fs (h .2)
+
+-- ---- the replay of a newly admitted record
+
+unbroken : (r : Record) (s : Sender) (l : List Arrival) → Expects r (s .sequence) (s .dbc) → Gapless s (frames l) → Unbroken ((replay r l) .0)
+unfolding replay answerOf senderOf sending.after
+unbroken r s [] x h = tt
+unbroken r s (a ∷ l) x h =
+    let e : senderOf (fieldsOf (a .frame)) ≡ s = h .1 in
+    let y : Expects r (fieldsOf (a .frame) .header .avtp .sequence) (fieldsOf (a .frame) .cip .dbc) = subst (λ (z : Sender). Expects r (z .sequence) (z .dbc)) (sym e) x in
+    let q = no-breaks r (a .frame) (a .time) y in
+    ((refl, q .0, q .1), unbroken (after r (a .frame) (a .time)) (sending.after (a .frame)) l (expects-next r (a .frame) (a .time)) (h .2))
+
+-- ---- admission
+
+neither : (b c : Bool) → b || c ≡ false → (b ≡ false) × (c ≡ false)
+neither true c e = absurd (false≢true (sym e))
+neither false c e = (refl, e)
+
+module _ (k : ℕ) where
+  new-record : (t : Table) → any (holds k) t ≡ false → any isUnused t ≡ true → StreamRecord (set t (place isUnused t) (admitted k)) k (place isUnused t) (admitted k)
+  unfolding any place admitted
+  new-record [] h u = absurd (false≢true u)
+  new-record (s ∷ t) h u =
+      let p = neither (holds k s) (any (holds k) t) h in
+      go (λ v. new-record t (p .1) v) (p .0) (isUnused s) u
+    where
+      go : (any isUnused t ≡ true → StreamRecord (set t (place isUnused t) (admitted k)) k (place isUnused t) (admitted k)) → holds k s ≡ false
+          → (b : Bool) → b || any isUnused t ≡ true
+          → StreamRecord (set (s ∷ t) (cond b 0 (suc (place isUnused t))) (admitted k)) k (cond b 0 (suc (place isUnused t))) (admitted k)
+      go ih e true v = record { there = refl; in-use = refl; id = refl; lowest = λ j q lt. absurd (omega arith) }
+      go ih e false v = one-higher k s (set t (place isUnused t) (admitted k)) (place isUnused t) (admitted k) e (ih v)
+
+-- what a table is after an admission
+record Admitted (u : Table) (k : ℕ) : Type 0 where
+  place : ℕ
+  stream : StreamRecord u k place (admitted k)
+  short : length u ≤ 64
+
+admitted-table : (t : Table) (k : ℕ) → (admit t k) .0 ≡ 0 → Admitted ((admit t k) .1) k
+unfolding admit
+admitted-table t k e =
+    let c = clear (admitChecks t k) tt e in
+    let i = place isUnused t in
+    subst (λ (n : ℕ). Admitted (changed n t i (admitted k)) k) (sym e)
+    (record {
+      place = i;
+      stream = new-record k t (c .1 .0) (not-false (any isUnused t) (c .1 .1 .0));
+      short = rw (length-set t i (admitted k)) (ltb-false 64 (length t) (c .0));
+    })
+
+-- ---- every frame is accepted
+
+accepts : (u : Table) (frame : List ℕ) → length u ≤ 64 → refusal frame ≡ 0 → any (holds (idOf frame)) u ≡ true → numberWith u frame ≡ 0
+unfolding numberWith refusal orElse firstOf
+accepts u frame short e h =
+    let b = not (any (holds (idOf frame)) u) in
+    rw (le-ltb 64 (length u) short) (then (frameChecks frame) ((b answers 15) ∷ []) (frame-numbered frame) ∙ rw (e, h))
+
+module _ (u : Table) (k : ℕ) (x : Admitted u k) where
+  abbrev AllMine : List Arrival → Type 0
+  AllMine [] = Unit {0}
+  AllMine (a ∷ l) = (ofStream u k a ≡ true) × AllMine l
+
+  all-mine : (s : Sender) (l : List Arrival) → Gapless s (frames l) → OfId k (frames l) → AllMine l
+  all-mine s [] g h = tt
+  all-mine s (a ∷ l) g h =
+      let there : any (holds (idOf (a .frame))) u ≡ true = rw (h .0) (stream-place k u (x .place) (admitted k) (x .stream) .0) in
+      (of-stream u a k (accepts u (a .frame) (x .short) (g .0) there) (h .0), all-mine (sending.after (a .frame)) l (g .2) (h .1))
+
+  those-all : (l : List Arrival) → AllMine l → those (ofStream u k) l ≡ l
+  unfolding those
+  those-all [] h = refl
+  those-all (a ∷ l) h = rw (h .0, those-all l (h .1))
+
+  answers-all : (l : List Arrival) (xs : List Answer) → AllMine l → length xs ≡ length l → answersTo (ofStream u k) l xs ≡ xs
+  unfolding answersTo
+  answers-all [] [] h e = refl
+  answers-all [] (y ∷ xs) h e = absurd (omega arith)
+  answers-all (a ∷ l) [] h e = absurd (omega arith)
+  answers-all (a ∷ l) (y ∷ xs) h e = rw (h .0, answers-all l xs (h .1) (omega arith))
+
+  heard : (s : Sender) (l : List Arrival) → Gapless s (frames l) → OfId k (frames l) → Unbroken ((run u l) .0)
+  heard s l g h =
+      let claim = over-a-table u in
+      let mine = all-mine s l g h in
+      let e : (run u l) .0 ≡ (replay (admitted k) l) .0 =
+      sym (answers-all l ((run u l) .0) mine (claim .one-each l))
+      ∙ claim .stream-answers l k (x .place) (admitted k) (x .stream)
+      ∙ ap (λ (m : List Arrival). (replay (admitted k) m) .0) (those-all l mine) in
+      rw e (unbroken (admitted k) s l (expects-any k (s .sequence) (s .dbc)) g)
+
+pub listener : Listener
+listener t k e s calls sender given one received got n l from =
+    let g = gapless-drop n s received (gapless s calls received sender given got) in
+    let h = ids-drop k n received (sent-ids k s calls sender given one received got) in
+    heard ((admit t k) .1) k (admitted-table t k e) (g .0) l (rw from (g .1)) (rw from h)
