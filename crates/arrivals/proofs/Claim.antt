@@ -13,7 +13,7 @@ use Rattle.stream.specs.declared.Record.{Record}
 use Rattle.stream.specs.Records.{admitted}
 use Rattle.stream.specs.Answers.{Answer, after, idOf}
 use Rattle.table.specs.Table.{Table, holds, place, at, only, numberWith, receiveBy, receive, receiveAlone}
-use Rattle.arrivals.specs.Arrivals.{Arrival, run, runAlone, isAccepted, ofStream, OneStream, StreamRecord, those, answersTo, replay, swap, Counted, Claim, ListsOfArrivals}
+use Rattle.arrivals.specs.Arrivals.{Arrival, run, runAlone, isAccepted, ofStream, OneStream, StreamRecord, those, answersTo, replay, swap, Counted, Claim}
 use Rattle.arrivals.proofs.Places.{and-both, stream-place, place-stream, one-stream, Verdict, refused, accepted, verdict, refused-verdict, accepted-number, number-place, number-any}
 use Rattle.arrivals.proofs.Directed.{directed, run-directed, one-answer-each, length-kept, place-kept, refused-at, as-replay, exchange-answers, exchange-table}
 use Rattle.arrivals.proofs.Counts.{replay-counted}
@@ -129,9 +129,5 @@ run-alone r (a ∷ l) =
     let x = receive (r ∷ []) (a .frame) (a .time) in
     rw (← single (x .1) (one-left r (a .frame) (a .time)), run-alone (only (x .1)) l)
 
-pub lists-of-arrivals : ListsOfArrivals
-lists-of-arrivals =
-    record {
-      over-a-table = over-a-table;
-      over-a-record = λ r. subst (Claim (r ∷ [])) (fun-ext (run-alone r)) (over-a-table (r ∷ []));
-    }
+pub over-a-record : (r : Record) → Claim (r ∷ []) (λ l. ((runAlone r l) .0, (runAlone r l) .1 ∷ []))
+over-a-record r = subst (Claim (r ∷ [])) (fun-ext (run-alone r)) (over-a-table (r ∷ []))

@@ -3,3 +3,4 @@ pub mod Directed
 pub mod Counts
 pub mod Claim
 pub mod Listener
+pub mod Fixed

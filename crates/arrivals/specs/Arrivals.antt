@@ -123,7 +123,9 @@ pub record Claim (t : Table) (go : List Arrival → List Answer × Table) : Type
   pub counts : (l : List Arrival) (k i : ℕ) (e : Record) → StreamRecord t k i (admitted k) → getElem? ((go l) .1) i ≡ some e
       → Counted e (answersTo (ofStream t k) l ((go l) .0))
 
--- demand 3: for every start table, and for every record lent alone as a table of one
+-- demand 3: for every start table, and for every record lent alone as a table of one; and the claim leaves nothing open
 pub record ListsOfArrivals : Type 0 where
   pub over-a-table : (t : Table) → Claim t (run t)
   pub over-a-record : (r : Record) → Claim (r ∷ []) (λ l. ((runAlone r l) .0, (runAlone r l) .1 ∷ []))
+  -- whatever meets the claim gives every answer and every record as `run` does
+  pub nothing-open : (t : Table) (go : List Arrival → List Answer × Table) → Claim t go → (l : List Arrival) → go l ≡ run t l
