@@ -11,12 +11,11 @@ use Rattle.frame.specs.declared.Reading.{Reading}
 use Rattle.frame.specs.declared.Reading.the-variants.{Accepted, Refused}
 use Rattle.frame.specs.declared.layout.Header.{Header}
 use Rattle.frame.specs.declared.layout.Cip.{Cip}
-use Rattle.frame.specs.declared.checks.Verdict.{Verdict}
-use Rattle.frame.specs.declared.checks.Verdict.the-variants as verdict
+use Rattle.frame.specs.declared.refusal.Verdict.{Verdict}
+use Rattle.frame.specs.declared.refusal.Verdict.the-variants as verdict
 use Rattle.frame.specs.Layout.{headerOf, cipOf, fieldsOf}
-use Rattle.frame.specs.Refusals.{numberOf, firstOf}
+use Rattle.frame.specs.Refusals.{verdictNumber, numberOf, firstOf}
 use Rattle.frame.specs.Checks.{lengthChecks, headerChecks, blockChecks, frameChecks, refusal}
-use Rattle.frame.specs.Verdicts.{verdictNumber}
 use Rattle.frame.specs.Reading.{Answer, noFields, answer, reading, told, payloadOf, dataOf}
 use Rattle.frame.proofs.First.{positive, stop, go}
 use Rattle.frame.proofs.Groups.{read-then, accepted-room}

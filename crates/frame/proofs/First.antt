@@ -10,10 +10,9 @@ use lib.Dec.{T, eqb, ltb, ltb→lt}
 use mir.Facts.{and-yes}
 use Rattle.frame.specs.declared.refusal.Refusal.{Refusal}
 use Rattle.frame.specs.declared.refusal.Refusal.the-variants.{FrameTooShort, FrameTooLong, WrongTpid, CfiSet, WrongEthertype, ControlAvtpdu, WrongSubtype, WrongVersion, NoStreamId, WrongAddress, DataBeyondFrame, WrongTag, NoCipHeader, PartialBlock, NotAdmitted, TableTooLong, AlreadyAdmitted, TableFull, NothingToRemove, WriteWrongAddress, WriteFieldTooWide, WritePartialBlock, WritePayloadTooLong, WriteOutputTooShort, RecordCut, RecordLength, RecordKind}
-use Rattle.frame.specs.declared.checks.Verdict.{Verdict}
-use Rattle.frame.specs.declared.checks.Verdict.the-variants.{Passed, Refused}
-use Rattle.frame.specs.Refusals.{numberOf, Check, _answers_, firstOf}
-use Rattle.frame.specs.Verdicts.{verdictNumber}
+use Rattle.frame.specs.declared.refusal.Verdict.{Verdict}
+use Rattle.frame.specs.declared.refusal.Verdict.the-variants.{Passed, Refused}
+use Rattle.frame.specs.Refusals.{verdictNumber, numberOf, Check, _answers_, firstOf}
 
 -- no refusal has the number 0
 pub positive : (r : Refusal) → (k : ℕ) × (numberOf r ≡ suc k)

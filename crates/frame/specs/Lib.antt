@@ -2,5 +2,4 @@ pub mod Layout
 pub mod Refusals
 pub mod Checks
 pub mod Reading
-pub mod Verdicts
 pub mod Ignored

@@ -4,6 +4,8 @@ use mathlib.Core.Bool.{Bool, cond}
 use mathlib.Core.List.{List, [], _∷_}
 use Rattle.frame.specs.declared.refusal.Refusal.{Refusal}
 use Rattle.frame.specs.declared.refusal.Refusal.the-variants.{FrameTooShort, FrameTooLong, WrongTpid, CfiSet, WrongEthertype, ControlAvtpdu, WrongSubtype, WrongVersion, NoStreamId, WrongAddress, DataBeyondFrame, WrongTag, NoCipHeader, PartialBlock, NotAdmitted, TableTooLong, AlreadyAdmitted, TableFull, NothingToRemove, WriteWrongAddress, WriteFieldTooWide, WritePartialBlock, WritePayloadTooLong, WriteOutputTooShort, RecordCut, RecordLength, RecordKind}
+use Rattle.frame.specs.declared.refusal.Verdict.{Verdict}
+use Rattle.frame.specs.declared.refusal.Verdict.the-variants.{Passed, Refused}
 
 abbrev pub numberOf : Refusal → ℕ
 numberOf FrameTooShort = 1
@@ -33,6 +35,11 @@ numberOf WriteOutputTooShort = 35
 numberOf RecordCut = 41
 numberOf RecordLength = 42
 numberOf RecordKind = 43
+
+-- the number of a verdict: 0 where no check applies
+abbrev pub verdictNumber : Verdict → ℕ
+verdictNumber Passed = 0
+verdictNumber (Refused r) = numberOf r
 
 -- A check is a condition and the number that it answers where it holds.
 infix 68 _answers_

@@ -5,16 +5,11 @@ use crate::layout::Ethernet;
 use crate::layout::Header;
 use crate::layout::Stream;
 use crate::refusal::Refusal;
+use crate::refusal::Verdict;
 ghost use mathlib.Core.Path.{_≡_};
 ghost use Prim.Native.Nat.{_≤_};
-ghost use Rattle.frame.specs.Refusals.{firstOf};
+ghost use Rattle.frame.specs.Refusals.{verdictNumber, firstOf};
 ghost use Rattle.frame.specs.Checks.{lengthChecks, ethernetChecks, avtpChecks, misaddressed, addressChecks, streamChecks, blockBytes, partialBlock, blockChecks, headerChecks};
-ghost use Rattle.frame.specs.Verdicts.{verdictNumber};
-
-pub(crate) enum Verdict {
-    Passed,
-    Refused(Refusal),
-}
 
 pub(crate) fn check_length(n: usize) -> Verdict
     ensures { λ r. ⌜ verdictNumber r ≡ firstOf (lengthChecks n) ⌝ }

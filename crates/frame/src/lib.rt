@@ -4,9 +4,9 @@ pub mod checks;
 pub mod layout;
 pub mod refusal;
 
-use checks::Verdict;
 use layout::Fields;
 use refusal::Refusal;
+use refusal::Verdict;
 ghost use mathlib.Core.Path.{_≡_};
 ghost use Rattle.frame.specs.Reading.{reading, told, dataOf, payloadOf, blocksOf, firstQuadlet};
 ghost use Rattle.frame.specs.Ignored.{IgnoredBits};

@@ -36,6 +36,12 @@ pub enum Refusal {
     RecordKind,
 }
 
+// What some checks come to: none of them applies, or the first that does.
+pub enum Verdict {
+    Passed,
+    Refused(Refusal),
+}
+
 pub fn number(refusal: Refusal) -> u8
     ensures { λ r. ⌜ r ≡ numberOf refusal ⌝ }
 {

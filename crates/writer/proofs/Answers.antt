@@ -4,15 +4,14 @@ use mathlib.Core.Path.{_≡_, refl, sym, ap, _∙_}
 use mathlib.Core.List.{List, _++_}
 use lib.ListN.{length, drop}
 use Rattle.frame.specs.declared.refusal.Refusal.{Refusal}
-use Rattle.frame.specs.Refusals.{numberOf}
+use Rattle.frame.specs.Refusals.{numberOf, verdictNumber}
 use Rattle.frame.proofs.First.{positive}
 use Rattle.writer.specs.declared.Sender.{Sender}
 use Rattle.writer.specs.declared.Written.the-variants.{Sent, Refused}
-use Rattle.writer.specs.declared.checks.Verdict.{Verdict}
-use Rattle.writer.specs.declared.checks.Verdict.the-variants as verdict
+use Rattle.frame.specs.declared.refusal.Verdict.{Verdict}
+use Rattle.frame.specs.declared.refusal.Verdict.the-variants as verdict
 use Rattle.writer.specs.declared.given.Given.{Given}
 use Rattle.writer.specs.Frames.{frameOf}
-use Rattle.writer.specs.Verdicts.{verdictNumber}
 use Rattle.writer.specs.Writing.{writeRefusal, next, told, writing, output}
 
 module _ (s : Sender) (g : Given) (payload out : List ℕ) where
@@ -30,5 +29,5 @@ module _ (s : Sender) (g : Given) (payload out : List ℕ) where
     pub refused : {r : Refusal} → v ≡ verdict.Refused r → (told (Refused r s) ≡ writing s g payload (length out)) × (out ≡ output s g payload out)
     refused {r} z = refuses r (ap verdictNumber (sym z) ∙ checked)
 
-    pub allowed : v ≡ verdict.Allowed → writeRefusal g (length payload) (length out) ≡ 0
+    pub allowed : v ≡ verdict.Passed → writeRefusal g (length payload) (length out) ≡ 0
     allowed z = sym checked ∙ ap verdictNumber z

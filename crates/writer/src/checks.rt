@@ -4,14 +4,10 @@ use crate::given::Format;
 use crate::given::Given;
 use crate::given::Origin;
 use frame::refusal::Refusal;
+use frame::refusal::Verdict;
 ghost use mathlib.Core.Path.{_≡_};
 ghost use Rattle.writer.specs.Writing.{addressFits, originFits, formatFits, fieldsFit, writeRefusal};
-ghost use Rattle.writer.specs.Verdicts.{verdictNumber};
-
-pub(crate) enum Verdict {
-    Allowed,
-    Refused(Refusal),
-}
+ghost use Rattle.frame.specs.Refusals.{verdictNumber};
 
 fn address_fits(a: Address) -> bool
     ensures { λ r. ⌜ r ≡ addressFits a ⌝ }
@@ -59,5 +55,5 @@ pub(crate) fn check(given: Given, n: usize, room: usize) -> Verdict
     if room < 50 + n {
         return Verdict::Refused(Refusal::WriteOutputTooShort);
     }
-    Verdict::Allowed
+    Verdict::Passed
 }

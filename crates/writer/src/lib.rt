@@ -4,8 +4,8 @@ pub mod given;
 mod output;
 mod rows;
 
-use checks::Verdict;
 use frame::refusal::Refusal;
+use frame::refusal::Verdict;
 use given::Given;
 ghost use mathlib.Core.Path.{_≡_};
 ghost use Prim.Native.Nat.{_≤_};
