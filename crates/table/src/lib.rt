@@ -9,9 +9,10 @@ use stream::Served;
 ghost use mathlib.Core.Path.{_≡_};
 ghost use Prim.Native.Nat.{_<_};
 ghost use lib.ListN.{length, set};
-ghost use Rattle.frame.specs.Reading.{payloadOf};
+ghost use Rattle.frame.specs.Reading.{payloadOf, told as readAs};
 ghost use Rattle.stream.specs.Answers.{told};
-ghost use Rattle.table.specs.Table.{at, wants, find, changeNumber, admit, remove, receive, receiveAlone};
+ghost use Rattle.stream.specs.declared.Receipt.the-variants.{Refused};
+ghost use Rattle.table.specs.Table.{at, wants, find, readingFor, receive, receiveAlone, changeNumber, changed, placeToAdmit, placeToRemove, changeOf, placeOf, admit, remove};
 
 // What a search looks for: the record in use that holds an id, or an unused one.
 pub(crate) enum Wanted {
@@ -22,6 +23,12 @@ pub(crate) enum Wanted {
 pub(crate) enum Found {
     At(usize),
     Nothing,
+}
+
+// Where a record is to be stored, or why none is.
+pub(crate) enum Target {
+    Place(usize),
+    Refuse(Refusal),
 }
 
 // What admission and removal answer.
@@ -37,4 +44,160 @@ fn is_wanted(r: Record, wanted: Wanted) -> bool
         Wanted::Holding(id) => { if r.in_use { r.id == id } else { false } }
         Wanted::Unused => !r.in_use,
     }
+}
+
+// A record, copied out.
+fn get(table: &[Record], i: usize) -> Record
+    requires { ⌜ i < length (now table) ⌝ }
+    ensures { λ r. ⌜ r ≡ at (now (table .entry)) i ⌝ }
+{
+    table[i]
+}
+
+// A record, stored.
+fn put(table: &mut [Record], i: usize, r: Record)
+    requires { ⌜ i < length (now table) ⌝ }
+    ensures { λ _. ⌜ now (table .exit) ≡ set (now (table .entry)) i r ⌝ }
+{
+    table[i] = r;
+}
+
+// The lowest place of a record that is wanted.
+fn find(table: &[Record], wanted: Wanted) -> Found
+    ensures { λ r. ⌜ r ≡ find (now (table .entry)) wanted ⌝ }
+{
+    let mut i = 0;
+    while i < table.len() {
+        let r = get(table, i);
+        if is_wanted(r, wanted) {
+            return Found::At(i);
+        }
+        i += 1;
+    }
+    Found::Nothing
+}
+// A frame for a table of n records: 20 before all else, then what the reader says.
+fn read_for(n: usize, frame: &[u8]) -> Reading
+    ensures { λ r. ⌜ readAs r ≡ readingFor n (now (frame .entry)) ⌝ }
+{
+    if n > 64 {
+        return Reading::Refused(Refusal::TableTooLong);
+    }
+    frame::read(frame)
+}
+
+fn refused(last: Record, refusal: Refusal) -> Served
+    ensures { λ r. ⌜ r ≡ record { after = last; receipt = Refused refusal } ⌝ }
+{
+    Served {
+        after: last,
+        receipt: Receipt::Refused(refusal),
+    }
+}
+
+// A frame for a record lent alone, by value.
+fn receive_alone(last: Record, frame: &[u8], arrival_time: u64) -> Served
+    ensures { λ r. ⌜ (told (r .receipt) (payloadOf (now (frame .entry))) ≡ receiveAlone last (now (frame .entry)) «arrival_time» .0) × (r .after ≡ receiveAlone last (now (frame .entry)) «arrival_time» .1) ⌝ }
+{
+    match read_for(1, frame) {
+        Reading::Refused(refusal) => refused(last, refusal),
+        Reading::Accepted(fields) => {
+            if is_wanted(last, Wanted::Holding(fields.header.stream.id)) {
+                stream::serve(last, fields, frame, arrival_time)
+            } else {
+                refused(last, Refusal::NotAdmitted)
+            }
+        }
+    }
+}
+
+// A frame for a record that is lent alone, as a table of one.
+pub fn receive_record(lent: &mut Record, frame: &[u8], arrival_time: u64) -> Receipt
+    ensures { λ r. ⌜ (told r (payloadOf (now (frame .entry))) ≡ receiveAlone (now (lent .entry)) (now (frame .entry)) «arrival_time» .0) × (now (lent .exit) ≡ receiveAlone (now (lent .entry)) (now (frame .entry)) «arrival_time» .1) ⌝ }
+{
+    let s = receive_alone(*lent, frame, arrival_time);
+    *lent = s.after;
+    s.receipt
+}
+
+// A frame for a table: one search, and the one record of its stream is read and stored.
+pub fn receive(table: &mut [Record], frame: &[u8], arrival_time: u64) -> Receipt
+    ensures { λ r. ⌜ (told r (payloadOf (now (frame .entry))) ≡ receive (now (table .entry)) (now (frame .entry)) «arrival_time» .0) × (now (table .exit) ≡ receive (now (table .entry)) (now (frame .entry)) «arrival_time» .1) ⌝ }
+{
+    match read_for(table.len(), frame) {
+        Reading::Refused(refusal) => Receipt::Refused(refusal),
+        Reading::Accepted(fields) => {
+            match find(table, Wanted::Holding(fields.header.stream.id)) {
+                Found::Nothing => Receipt::Refused(Refusal::NotAdmitted),
+                Found::At(i) => {
+                    let last = get(table, i);
+                    let s = stream::serve(last, fields, frame, arrival_time);
+                    put(table, i, s.after);
+                    s.receipt
+                }
+            }
+        }
+    }
+}
+
+// Admission takes the place of the unused record, unless the id is held already.
+fn place_to_admit(n: usize, held: Found, free: Found) -> Target
+    ensures { λ r. ⌜ r ≡ placeToAdmit n held free ⌝ }
+{
+    if n > 64 {
+        return Target::Refuse(Refusal::TableTooLong);
+    }
+    match held {
+        Found::At(_) => Target::Refuse(Refusal::AlreadyAdmitted),
+        Found::Nothing => match free {
+            Found::At(i) => Target::Place(i),
+            Found::Nothing => Target::Refuse(Refusal::TableFull),
+        },
+    }
+}
+
+// Removal takes the place of the record that holds the id.
+fn place_to_remove(n: usize, held: Found) -> Target
+    ensures { λ r. ⌜ r ≡ placeToRemove n held ⌝ }
+{
+    if n > 64 {
+        return Target::Refuse(Refusal::TableTooLong);
+    }
+    match held {
+        Found::At(i) => Target::Place(i),
+        Found::Nothing => Target::Refuse(Refusal::NothingToRemove),
+    }
+}
+
+// A record is stored at the target, where there is one.
+fn store(table: &mut [Record], target: Target, r: Record) -> Change
+    requires { ⌜ (changeNumber (changeOf target) ≡ 0 → placeOf target < length (now table)) ⌝ }
+    ensures { λ c. ⌜ (c ≡ changeOf target) × (now (table .exit) ≡ changed (changeNumber (changeOf target)) (now (table .entry)) (placeOf target) r) ⌝ }
+{
+    match target {
+        Target::Refuse(refusal) => Change::Refused(refusal),
+        Target::Place(i) => {
+            put(table, i, r);
+            Change::Made
+        }
+    }
+}
+
+// The stream is admitted at the lowest unused place, with nothing seen.
+pub fn admit(table: &mut [Record], id: u64) -> Change
+    ensures { λ r. ⌜ (changeNumber r ≡ admit (now (table .entry)) id .0) × (now (table .exit) ≡ admit (now (table .entry)) id .1) ⌝ }
+{
+    let held = find(table, Wanted::Holding(id));
+    let free = find(table, Wanted::Unused);
+    let target = place_to_admit(table.len(), held, free);
+    store(table, target, stream::admitted(id))
+}
+
+// The stream's record is unused again, with every field zero.
+pub fn remove(table: &mut [Record], id: u64) -> Change
+    ensures { λ r. ⌜ (changeNumber r ≡ remove (now (table .entry)) id .0) × (now (table .exit) ≡ remove (now (table .entry)) id .1) ⌝ }
+{
+    let held = find(table, Wanted::Holding(id));
+    let target = place_to_remove(table.len(), held);
+    store(table, target, stream::unused())
 }

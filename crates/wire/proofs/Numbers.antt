@@ -3,17 +3,17 @@
 use Prim.Native.Nat.{ℕ, zero, suc, _+_, _*_, _%_, _^_, _<_, _≤_}
 use mathlib.Core.Path.{_≡_, refl, sym, ap, _∙_}
 use mathlib.Core.Bool.{Bool, true, false, not}
-use mathlib.Core.List.{List, [], _∷_, _++_}
+use mathlib.Core.List.{List, [], _∷_, _++_, reverse, reverse-append}
 use native.Mathlib.Nat.{lt-of-lt-of-le, add-assoc, add-mul, mul-assoc}
 use native.Mathlib.Omega.{arith}
 use borrow.Author.Tests.{le-leb, leb-true, not-true, not-false}
 use lib.Bits.{bitOr}
 use lib.Dec.{leb}
-use lib.ListN.{length, getD, take, drop, length-append, length-drop, length-replicate}
+use lib.ListN.{length, getD, take, drop, length-append, length-drop, length-replicate, length-reverse}
 use lib.Pow.{pow-add, pow-mono, shl-lt}
 use lib.Seq.{length-take-le, take-add, drop-drop, drop-cons}
 use Rattle.wire.specs.Bits.{width, pack, unpack, Fit}
-use Rattle.wire.specs.Numbers.{octets, number, bytes, part, numberAt, numberOr0}
+use Rattle.wire.specs.Numbers.{octets, number, bytes, part, numberAt, numberOr0, littleEndianAt, littleEndianOr0}
 use Rattle.wire.proofs.Bits.{joined, length-unpack, pack-lt, unpack-pack, pack-unpack}
 
 width-octets : (k : ℕ) → width (octets k) ≡ 8 * k
@@ -74,3 +74,29 @@ pub beside : (at m n w : ℕ) (s : List ℕ) {hi lo : ℕ} → at + (m + n) ≤ 
 beside at m n w s {hi} {lo} h fit eh el hh hl =
     joined hi (8 * n) w hl (lt-of-lt-of-le (shl-lt (8 * m) (8 * n) hh) (pow-mono fit))
     ∙ rw (there at (m + n) s h, split at m n s h, eh, el, there at m s (omega arith), there (at + m) n s (omega arith)) refl
+
+-- ---- reading from the least significant byte on
+
+pub le-missing : (at k : ℕ) (s : List ℕ) {r : Bool} → r ≡ leb (at + k) (length s) → not r ≡ true → 0 ≡ littleEndianOr0 at k s
+le-missing at k s {r} held e = rw (sym held ∙ not-true r e)
+
+le-there : (at k : ℕ) (s : List ℕ) → at + k ≤ length s → littleEndianOr0 at k s ≡ littleEndianAt at k s
+le-there at k s h = rw (le-leb (at + k) (length s) h)
+
+pub le-byte-there : (at : ℕ) (s : List ℕ) → at + 1 ≤ length s → getD s at 0 ≡ littleEndianOr0 at 1 s
+le-byte-there at s h = rw (le-there at 1 s h, drop-cons s at 0 (omega arith)) (omega arith)
+
+le-split : (at m n : ℕ) (s : List ℕ) → at + (m + n) ≤ length s
+    → littleEndianAt at (m + n) s ≡ littleEndianAt (at + m) n s * 2 ^ (8 * m) + littleEndianAt at m s
+le-split at m n s h =
+    let low = take m (drop at s) in
+    let high = take n (drop (at + m) s) in
+    let l : length (reverse low) ≡ m = length-reverse low ∙ length-take-le m (drop at s) (rw (length-drop at s) (omega arith)) in
+    rw (take-add m n (drop at s), drop-drop m at s, reverse-append low high, number-append (reverse high) (reverse low), l) refl
+
+-- The same fact over the width, the lower bytes first.
+pub le-beside : (at m n w : ℕ) (s : List ℕ) {hi lo : ℕ} → at + (m + n) ≤ length s → 8 * n + 8 * m ≤ w → hi ≡ littleEndianOr0 (at + m) n s → lo ≡ littleEndianOr0 at m s
+    → hi < 2 ^ (8 * n) → lo < 2 ^ (8 * m) → bitOr ((hi * 2 ^ (8 * m)) % 2 ^ w) lo ≡ littleEndianOr0 at (m + n) s
+le-beside at m n w s {hi} {lo} h fit eh el hh hl =
+    joined hi (8 * m) w hl (lt-of-lt-of-le (shl-lt (8 * n) (8 * m) hh) (pow-mono fit))
+    ∙ rw (le-there at (m + n) s h, le-split at m n s h, eh, el, le-there at m s (omega arith), le-there (at + m) n s (omega arith)) refl

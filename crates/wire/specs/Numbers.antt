@@ -1,7 +1,7 @@
 -- Numbers on the wire are big-endian (document 01, Frame layout): rows of fields of eight bits.
 use Prim.Native.Nat.{ℕ, _+_}
 use mathlib.Core.Bool.{cond}
-use mathlib.Core.List.{List}
+use mathlib.Core.List.{List, reverse}
 use lib.ListN.{length, take, drop, replicate}
 use lib.Dec.{leb}
 use Rattle.wire.specs.Bits.{pack, unpack}
@@ -29,3 +29,17 @@ numberAt at k bs = number (part at k bs)
 -- the same, and 0 where bs ends before them
 abbrev pub numberOr0 : ℕ → ℕ → List ℕ → ℕ
 numberOr0 at k bs = cond (leb (at + k) (length bs)) (numberAt at k bs) 0
+
+-- ---- A capture's own numbers are little-endian (document 01, Capture and listing)
+
+-- the number that bytes spell, the first byte the least significant
+abbrev pub littleEndian : List ℕ → ℕ
+littleEndian bs = number (reverse bs)
+
+-- the number in the k bytes of bs from place at on
+abbrev pub littleEndianAt : ℕ → ℕ → List ℕ → ℕ
+littleEndianAt at k bs = littleEndian (part at k bs)
+
+-- the same, and 0 where bs ends before them
+abbrev pub littleEndianOr0 : ℕ → ℕ → List ℕ → ℕ
+littleEndianOr0 at k bs = cond (leb (at + k) (length bs)) (littleEndianAt at k bs) 0

@@ -3,7 +3,7 @@ ghost use mathlib.Core.Path.{_≡_};
 ghost use Prim.Native.Nat.{_+_};
 ghost use lib.ListN.{length};
 ghost use lib.Dec.{leb};
-ghost use Rattle.wire.specs.Numbers.{numberOr0};
+ghost use Rattle.wire.specs.Numbers.{numberOr0, littleEndianOr0};
 ghost use Rattle.wire.specs.RoundTrips.{RoundTrips};
 
 // Does a slice of `len` bytes hold `k` bytes from place `at` on?
@@ -62,6 +62,34 @@ pub fn be64(s: &[u8], at: usize) -> u64
         return 0;
     }
     ((be32(s, at) as u64) << 32) | (be32(s, at + 4) as u64)
+}
+
+// A capture's own numbers have the least significant byte first.
+pub fn le16(s: &[u8], at: usize) -> u16
+    ensures { λ r. ⌜ r ≡ littleEndianOr0 at 2 (now (s .entry)) ⌝ }
+{
+    if !holds(s.len(), at, 2) {
+        return 0;
+    }
+    ((s[at + 1] as u16) << 8) | (s[at] as u16)
+}
+
+fn le32(s: &[u8], at: usize) -> u32
+    ensures { λ r. ⌜ r ≡ littleEndianOr0 at 4 (now (s .entry)) ⌝ }
+{
+    if !holds(s.len(), at, 4) {
+        return 0;
+    }
+    ((le16(s, at + 2) as u32) << 16) | (le16(s, at) as u32)
+}
+
+pub fn le64(s: &[u8], at: usize) -> u64
+    ensures { λ r. ⌜ r ≡ littleEndianOr0 at 8 (now (s .entry)) ⌝ }
+{
+    if !holds(s.len(), at, 8) {
+        return 0;
+    }
+    ((le32(s, at + 4) as u64) << 32) | (le32(s, at) as u64)
 }
 
 // Reading and writing undo each other: the writer's and the reader's claims rest on this.

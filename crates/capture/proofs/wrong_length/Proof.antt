@@ -1,0 +1,11 @@
+use mathlib.Core.Path.{refl}
+use Rattle.capture.specs.Records.{wrongLength}
+use Rattle.capture.proofs.wrong_length.Statement.{statement}
+use Rattle.capture.proofs.wrong_length.Tie as tie
+
+returns : tie.Need-returns
+unfolding wrongLength
+returns c = refl
+
+pub wrong-length-spec : {M : Type 1} → statement M
+wrong-length-spec = tie.close (tie.spec returns)

@@ -1,0 +1,4 @@
+pub mod Records
+pub mod Sizes
+pub mod Parts
+pub mod Marks

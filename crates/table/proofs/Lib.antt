@@ -1,0 +1,11 @@
+pub mod Calls
+pub mod Again
+pub mod Shared
+pub mod Lending
+pub mod Slots
+pub mod Pieces
+pub mod Searched
+pub mod Callees
+pub mod Receiving
+pub mod Machine
+pub mod Changing

@@ -1,0 +1,139 @@
+-- What a frame is answered with a table, from what the reader said of it and what the search for its stream found.
+-- Assumes nothing.
+use Prim.Native.Nat.{ℕ, zero, suc}
+use mathlib.Core.Path.{_≡_, refl, sym, ap, _∙_}
+use mathlib.Core.Bool.{Bool, true, false, not, cond}
+use mathlib.Core.List.{List, [], _∷_}
+use native.Mathlib.Omega.{arith}
+use lib.Dec.{ltb}
+use lib.ListN.{length, set}
+use Rattle.frame.specs.declared.refusal.Refusal.{Refusal}
+use Rattle.frame.specs.declared.refusal.Refusal.the-variants.{NotAdmitted, TableTooLong}
+use Rattle.frame.specs.declared.layout.Fields.{Fields}
+use Rattle.frame.specs.declared.Reading.the-variants.{Accepted, Refused}
+use Rattle.frame.specs.Layout.{fieldsOf}
+use Rattle.frame.specs.Refusals.{numberOf, Check, _answers_, firstOf}
+use Rattle.frame.specs.Checks.{lengthChecks, ethernetChecks, avtpChecks, addressChecks, streamChecks, blockChecks, headerChecks, readChecks, frameChecks, refusal}
+use Rattle.frame.specs.Reading.{Answer as ReadAnswer, answer, reading, payloadOf, told as readAs}
+use Rattle.frame.proofs.First.{positive, orElse, then}
+use Rattle.stream.specs.declared.Record.{Record}
+use Rattle.stream.specs.declared.Receipt.{Receipt}
+use Rattle.stream.specs.declared.Served.{Served}
+use Rattle.stream.specs.declared.Receipt.the-variants as receipt
+use Rattle.stream.specs.Step.{served}
+use Rattle.stream.specs.Answers.{Answer, refusedWith, answerOf, after, idOf, told}
+use Rattle.stream.proofs.Laws.{served-after, served-answer}
+use Rattle.table.specs.declared.Found.{Found}
+use Rattle.table.specs.declared.Found.the-variants.{At, Nothing}
+use Rattle.table.specs.declared.Wanted.the-variants.{Holding}
+use Rattle.table.specs.Table.{Table, any, place, holds, at, find, numberWith, receive, receiveAlone, readingFor, only}
+use Rattle.table.proofs.Searched.{found-at, found-none}
+
+-- ---- the number, from the reader's and the search's
+abbrev tooLong : ℕ → Check
+tooLong n = ltb 64 n answers 20
+
+-- before the table is searched
+abbrev numberBefore : ℕ → List ℕ → ℕ
+numberBefore n frame = firstOf (tooLong n ∷ frameChecks frame)
+
+abbrev unadmitted : Bool → ℕ
+unadmitted found = cond (not found) 15 0
+
+number-then : (t : Table) (frame : List ℕ) → numberWith t frame ≡ orElse (numberBefore (length t) frame) (unadmitted (any (holds (idOf frame)) t))
+unfolding numberWith firstOf frameChecks readChecks lengthChecks headerChecks ethernetChecks avtpChecks addressChecks streamChecks blockChecks
+number-then t frame = then (tooLong (length t) ∷ frameChecks frame) (not (any (holds (idOf frame)) t) answers 15 ∷ []) tt
+
+past-20 : (b : Bool) (n : ℕ) → cond b 20 n ≡ 0 → n ≡ 0
+past-20 true n e = absurd (omega (arith, e))
+past-20 false n e = e
+
+-- ---- what the reader said
+refused-as : (n : ℕ) (f : Fields) (r : Refusal) → readAs (Refused r) ≡ answer n f → n ≡ numberOf r
+refused-as zero f r e = ap (λ (a : ReadAnswer). a .number) (sym e)
+refused-as (suc n) f r e = ap (λ (a : ReadAnswer). a .number) (sym e)
+
+accepted-as : (n : ℕ) (f g : Fields) → readAs (Accepted f) ≡ answer n g → (n ≡ 0) × (f ≡ g)
+accepted-as zero f g e = (refl, ap (λ (a : ReadAnswer). a .fields) e)
+accepted-as (suc n) f g e = let same : 0 ≡ suc n = ap (λ (a : ReadAnswer). a .number) e in absurd (omega (arith, same))
+
+-- `read_for`: past 64 records, and up to them
+pub too-long : (n : ℕ) (frame : List ℕ) → ltb 64 n ≡ true → readAs (Refused TableTooLong) ≡ readingFor n frame
+unfolding readingFor firstOf
+too-long n frame e = rw e
+
+pub short-enough : (n : ℕ) (frame : List ℕ) → ltb 64 n ≡ false → reading frame ≡ readingFor n frame
+unfolding readingFor firstOf reading refusal
+short-enough n frame e = rw e
+
+-- ---- the answer and the table afterwards
+abbrev pub Receives : Table → List ℕ → ℕ → Receipt → Table → Type 0
+Receives t frame L r u = (told r (payloadOf frame) ≡ receive t frame L .0) × (u ≡ receive t frame L .1)
+
+module _ (t : Table) (frame : List ℕ) (L : ℕ) where
+  refuses : (r : Refusal) → numberWith t frame ≡ numberOf r → Receives t frame L (receipt.Refused r) t
+  unfolding receive
+  refuses r e = let p = positive r in (rw (e, p .1), rw (e, p .1))
+
+  accepts : numberWith t frame ≡ 0 → (i : ℕ) → place (holds (idOf frame)) t ≡ i → (answerOf (at t i) frame L ≡ receive t frame L .0) × (set t i (after (at t i) frame L) ≡ receive t frame L .1)
+  unfolding receive
+  accepts e i p = (rw (e, p), rw (e, p))
+
+  pub receives-refused : (r : Refusal) → readAs (Refused r) ≡ readingFor (length t) frame → Receives t frame L (receipt.Refused r) t
+  unfolding readingFor orElse
+  receives-refused r e = let p = positive r in refuses r (rw (number-then t frame, refused-as (numberBefore (length t) frame) (fieldsOf frame) r e, p .1))
+
+  -- past the reader the search for the frame's stream decides
+  module _ (f : Fields) (e : readAs (Accepted f) ≡ readingFor (length t) frame) where
+    abbrev id : ℕ
+    id = f .header .stream .id
+
+    accepted : (numberBefore (length t) frame ≡ 0) × (f ≡ fieldsOf frame)
+    unfolding readingFor
+    accepted = accepted-as (numberBefore (length t) frame) f (fieldsOf frame) e
+
+    same-id : id ≡ idOf frame
+    unfolding idOf
+    same-id = ap (λ (g : Fields). g .header .stream .id) (accepted .1)
+
+    decided : (b : Bool) → any (holds id) t ≡ b → numberWith t frame ≡ unadmitted b
+    unfolding orElse
+    decided b h = rw (number-then t frame, accepted .0, ← same-id, h)
+
+    pub receives-unadmitted : find t (Holding id) ≡ Nothing → Receives t frame L (receipt.Refused NotAdmitted) t
+    receives-unadmitted none = refuses NotAdmitted (decided false (found-none t (Holding id) none))
+
+    pub receives-served : (i : ℕ) → find t (Holding id) ≡ At i → Receives t frame L (served (at t i) f frame L .receipt) (set t i (served (at t i) f frame L .after))
+    unfolding firstOf refusal
+    receives-served i h =
+        let found = found-at t (Holding id) h in
+        let there : place (holds (idOf frame)) t ≡ i = rw (← same-id) (found .1) in
+        let by-number = accepts (decided true (found .0)) i there in
+        let read : refusal frame ≡ 0 = past-20 (ltb 64 (length t)) (refusal frame) (accepted .0) in (
+          ap (λ (g : Fields). told (served (at t i) g frame L .receipt) (payloadOf frame)) (accepted .1) ∙ served-answer (at t i) frame L read ∙ by-number .0,
+          ap (λ (g : Fields). set t i (served (at t i) g frame L .after)) (accepted .1) ∙ ap (set t i) (served-after (at t i) frame L read) ∙ by-number .1,
+        )
+
+-- ---- a record lent alone
+abbrev pub ReceivesAlone : Record → List ℕ → ℕ → Served → Type 0
+ReceivesAlone last frame L s = (told (s .receipt) (payloadOf frame) ≡ receiveAlone last frame L .0) × (s .after ≡ receiveAlone last frame L .1)
+
+found-alone : (id : ℕ) (last : Record) (b : Bool) → holds id last ≡ b → find (last ∷ []) (Holding id) ≡ cond b (At 0) Nothing
+unfolding find any place
+found-alone id last true e = rw e
+found-alone id last false e = rw e
+
+module _ (last : Record) (frame : List ℕ) (L : ℕ) where
+  alone : (s : Served) → Receives (last ∷ []) frame L (s .receipt) (s .after ∷ []) → ReceivesAlone last frame L s
+  unfolding receiveAlone
+  alone s h = (h .0, ap only (h .1))
+
+  pub alone-refused : (r : Refusal) → readAs (Refused r) ≡ readingFor 1 frame → ReceivesAlone last frame L (record { after = last; receipt = receipt.Refused r })
+  alone-refused r e = alone (record { after = last; receipt = receipt.Refused r }) (receives-refused (last ∷ []) frame L r e)
+
+  module _ (f : Fields) (e : readAs (Accepted f) ≡ readingFor 1 frame) where
+    pub alone-unadmitted : holds (f .header .stream .id) last ≡ false → ReceivesAlone last frame L (record { after = last; receipt = receipt.Refused NotAdmitted })
+    alone-unadmitted h = alone (record { after = last; receipt = receipt.Refused NotAdmitted }) (receives-unadmitted (last ∷ []) frame L f e (found-alone (f .header .stream .id) last false h))
+
+    pub alone-served : holds (f .header .stream .id) last ≡ true → ReceivesAlone last frame L (served last f frame L)
+    alone-served h = alone (served last f frame L) (receives-served (last ∷ []) frame L f e 0 (found-alone (f .header .stream .id) last true h))
