@@ -1,0 +1,25 @@
+use mathlib.Core.Path.{refl}
+use Rattle.frame.specs.Refusals.{firstOf}
+use Rattle.frame.specs.Layout.{ethernetOf, avtpOf, streamOf, cipOf, headerOf, fieldsOf}
+use Rattle.frame.specs.Checks.{misaddressed, blockBytes, lengthChecks, ethernetChecks, avtpChecks, addressChecks, streamChecks, blockChecks, headerChecks, readChecks, frameChecks, refusal}
+use Rattle.frame.specs.Reading.{payloadOf, blocksOf}
+use Rattle.presentation.specs.Offset.{offset}
+use Rattle.presentation.specs.Presentation.{timed, timing, presentation}
+use Rattle.stream.specs.Records.{unused, admitted, formatOf, formatChange, flagsOf, bump, countsAfter, recordAfter}
+use Rattle.stream.specs.Step.{stepped}
+use Rattle.stream.specs.Answers.{refusedWith, stepOf as frameStep, answerOf, after, idOf}
+use Rattle.table.specs.Table.{any, place, admit, remove, numberWith, receive}
+use Rattle.capture.specs.Records.{lengthOf, kindOf, frameOf, wrongLength, unknownKind, entryOf}
+use Rattle.listing.specs.Text.{digits, decimal}
+use Rattle.listing.specs.Lines.{endLine, flagsText, timingText, lineText}
+use Rattle.listing.specs.Listing.{stepOf, listedFrom, listing}
+use Rattle.listing.specs.Example.{exampleCapture, exampleListing}
+use Rattle.listing.proofs.worked_example.Statement.{statement}
+use Rattle.listing.proofs.worked_example.Tie as tie
+
+returns : tie.Need-returns
+unfolding firstOf ethernetOf avtpOf streamOf cipOf headerOf fieldsOf misaddressed blockBytes lengthChecks ethernetChecks avtpChecks addressChecks streamChecks blockChecks headerChecks readChecks frameChecks refusal payloadOf blocksOf offset timed timing presentation unused admitted formatOf formatChange flagsOf bump countsAfter recordAfter stepped refusedWith frameStep answerOf after idOf any place admit remove numberWith receive lengthOf kindOf frameOf wrongLength unknownKind entryOf digits decimal endLine flagsText timingText lineText stepOf listedFrom listing exampleCapture exampleListing
+returns c = record { whole = refl; empty = refl; cut = refl }
+
+pub worked-example-spec : {M : Type 1} → statement M
+worked-example-spec = tie.close (tie.spec returns)

@@ -1,0 +1,44 @@
+-- Document 01's whole listing: admit 1; a frame of stream 1 with L 1000, T 3000; a frame of stream 2; remove 1.
+use Prim.Native.Nat.{ℕ, _+_}
+use mathlib.Core.Path.{_≡_}
+use mathlib.Core.List.{List, [], _++_, reverse}
+use lib.ListN.{length, take}
+use Rattle.wire.specs.Numbers.{bytes}
+use Rattle.listing.specs.Text.{ascii}
+use Rattle.listing.specs.Listing.{listing}
+
+-- a sound frame of a stream, with an AVTP timestamp and no blocks (destination, source, VLAN tag, Ethertype; the AVTPDU's first four
+-- bytes, stream id, timestamp, gateway info, stream_data_length, tag and channel, the CIP header)
+abbrev pub soundFrame : ℕ → ℕ → List ℕ
+soundFrame id timestamp =
+    bytes 6 0x91E0F0000001 ++ bytes 6 0x020000000001 ++ bytes 2 0x8100 ++ bytes 2 0x6002 ++ bytes 2 0x22F0
+    ++ bytes 1 0x00 ++ bytes 1 0x81 ++ bytes 1 0 ++ bytes 1 0
+    ++ bytes 8 id ++ bytes 4 timestamp ++ bytes 4 0 ++ bytes 2 8
+    ++ bytes 2 0x5FA0 ++ bytes 8 0x000600009002FFFF
+
+-- a record: the length of what follows in it, the kind and the body
+abbrev pub recordBytes : ℕ → List ℕ → List ℕ
+recordBytes kind body = reverse (bytes 2 (2 + length body)) ++ reverse (bytes 2 kind) ++ body
+
+unfoldable pub exampleCapture : List ℕ
+exampleCapture =
+    recordBytes 2 (bytes 8 1)
+    ++ recordBytes 1 (reverse (bytes 8 1000) ++ soundFrame 1 3000)
+    ++ recordBytes 1 (reverse (bytes 8 2000) ++ soundFrame 2 3000)
+    ++ recordBytes 3 (bytes 8 1)
+
+unfoldable pub exampleListing : List ℕ
+exampleListing =
+    ascii "avtp listing 1\n"
+    ++ ascii "1 admitted\n"
+    ++ ascii "2 frame seq=ok dbc=ok fmt=ok mr=ok time=ahead offset=2000\n"
+    ++ ascii "3 refused 15\n"
+    ++ ascii "4 removed\n"
+    ++ ascii "end records=4\n"
+
+pub record WorkedExample : Type 0 where
+  pub whole : listing exampleCapture ≡ exampleListing
+  -- an empty capture lists the first and last line
+  pub empty : listing [] ≡ ascii "avtp listing 1\nend records=0\n"
+  -- a cut record is listed and counted too
+  pub cut : listing (take 15 exampleCapture) ≡ ascii "avtp listing 1\n1 admitted\n2 refused 41\nend records=2\n"
