@@ -2,3 +2,4 @@ pub mod Decimals
 pub mod Puts
 pub mod Signs
 pub mod Bound
+pub mod InChunks

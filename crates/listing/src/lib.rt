@@ -11,6 +11,7 @@ ghost use lib.ListN.{length};
 ghost use Rattle.listing.specs.Lines.{startLine, endLine, lineOf, lineText};
 ghost use Rattle.listing.specs.Writing.{roomy, told, writing};
 ghost use Rattle.listing.specs.Bound.{EveryRecord};
+ghost use Rattle.listing.specs.InChunks.{InChunks};
 ghost use Rattle.listing.specs.Example.{WorkedExample};
 
 // What became of a record of a capture.
@@ -86,4 +87,9 @@ fn every_record()
 // The rules list document 01's capture as it does.
 fn worked_example()
     ensures { λ _. ⌜ WorkedExample ⌝ }
+{}
+
+// Listing a capture in any chunks is listing it whole.
+fn in_chunks()
+    ensures { λ _. ⌜ InChunks ⌝ }
 {}
