@@ -4,7 +4,6 @@ ghost use mathlib.Core.Path.{_≡_};
 ghost use Prim.Native.Nat.{_+_, _≤_, _<_};
 ghost use mathlib.Core.List.{_++_};
 ghost use lib.ListN.{length};
-ghost use lib.IntN.{natAbs};
 ghost use Rattle.listing.specs.Text.{decimal, signed};
 ghost use Rattle.listing.specs.Lines.{flagWord, kindWord};
 ghost use Rattle.listing.specs.Writing.{Put};
@@ -51,23 +50,12 @@ pub(crate) fn put_number(out: &mut [u8], at: usize, n: u64) -> usize
     put_decimal(out, at, n)
 }
 
-// How far `z` is from zero. `-z` does not fit where `z` is the lowest number; `-1 - z` does.
-fn magnitude(z: i64) -> u64
-    ensures { λ r. ⌜ r ≡ natAbs z ⌝ }
-{
-    if z < 0 {
-        let below = -1 - z;
-        return below as u64 + 1;
-    }
-    z as u64
-}
-
 pub(crate) fn put_signed(out: &mut [u8], at: usize, z: i64) -> usize
     requires { ⌜ at + 21 ≤ length (now out) ⌝ }
     ensures { λ r. ⌜ Put (now (out .entry)) at (signed z) (now (out .exit)) r ⌝ }
     ensures { λ r. ⌜ r ≤ at + 21 ⌝ }
 {
-    let far = magnitude(z);
+    let far = presentation::magnitude(z);
     if z < 0 {
         out[at] = b'-';
         return put_decimal(out, at + 1, far);
