@@ -1,14 +1,14 @@
 -- What admission and removal answer, from what the searches found.
 -- Assumes nothing.
 use Prim.Native.Nat.{ℕ, zero, suc, _<_}
-use mathlib.Core.Path.{_≡_, refl, sym, ap, _∙_}
+use mathlib.Core.Path.{_≡_, refl, sym, _∙_}
 use mathlib.Core.Bool.{Bool, true, false}
 use native.Mathlib.Omega.{arith}
 use lib.Dec.{ltb}
-use lib.ListN.{length, set, length-set}
+use lib.ListN.{length, length-set}
 use Rattle.frame.specs.declared.refusal.Refusal.{Refusal}
 use Rattle.frame.specs.declared.refusal.Refusal.the-variants.{TableTooLong, AlreadyAdmitted, TableFull, NothingToRemove}
-use Rattle.frame.specs.Refusals.{numberOf, firstOf}
+use Rattle.frame.specs.Refusals.{firstOf}
 use Rattle.frame.proofs.First.{positive}
 use Rattle.stream.specs.declared.Record.{Record}
 use Rattle.stream.specs.Records.{unused, admitted}
@@ -17,8 +17,7 @@ use Rattle.table.specs.declared.Found.the-variants.{At, Nothing}
 use Rattle.table.specs.declared.Wanted.the-variants.{Holding, Unused}
 use Rattle.table.specs.declared.Target.{Target}
 use Rattle.table.specs.declared.Target.the-variants.{Place, Refuse}
-use Rattle.table.specs.declared.Change.{Change}
-use Rattle.table.specs.Table.{Table, any, place, find, admit, remove, changed, changeNumber, changeOf, placeOf, placeToAdmit, placeToRemove}
+use Rattle.table.specs.Table.{Table, find, admit, remove, changed, changeNumber, changeOf, placeOf, placeToAdmit, placeToRemove}
 use Rattle.table.proofs.Searched.{found-at, found-none, found-within}
 
 -- ---- a table changed at a target

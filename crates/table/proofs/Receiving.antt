@@ -21,9 +21,8 @@ use Rattle.stream.specs.declared.Receipt.{Receipt}
 use Rattle.stream.specs.declared.Served.{Served}
 use Rattle.stream.specs.declared.Receipt.the-variants as receipt
 use Rattle.stream.specs.Step.{served}
-use Rattle.stream.specs.Answers.{Answer, refusedWith, answerOf, after, idOf, told}
+use Rattle.stream.specs.Answers.{answerOf, after, idOf, told}
 use Rattle.stream.proofs.Laws.{served-after, served-answer}
-use Rattle.table.specs.declared.Found.{Found}
 use Rattle.table.specs.declared.Found.the-variants.{At, Nothing}
 use Rattle.table.specs.declared.Wanted.the-variants.{Holding}
 use Rattle.table.specs.Table.{Table, any, place, holds, at, find, numberWith, receive, receiveAlone, readingFor, only}
@@ -40,7 +39,7 @@ numberBefore n frame = firstOf (tooLong n ∷ frameChecks frame)
 abbrev unadmitted : Bool → ℕ
 unadmitted found = cond (not found) 15 0
 
-number-then : (t : Table) (frame : List ℕ) → numberWith t frame ≡ orElse (numberBefore (length t) frame) (unadmitted (any (holds (idOf frame)) t))
+pub number-then : (t : Table) (frame : List ℕ) → numberWith t frame ≡ orElse (numberBefore (length t) frame) (unadmitted (any (holds (idOf frame)) t))
 unfolding numberWith firstOf frameChecks readChecks lengthChecks headerChecks ethernetChecks avtpChecks addressChecks streamChecks blockChecks
 number-then t frame = then (tooLong (length t) ∷ frameChecks frame) (not (any (holds (idOf frame)) t) answers 15 ∷ []) tt
 

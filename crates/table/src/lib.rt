@@ -1,16 +1,17 @@
 // Stream records in a table that the caller lends, and one record lent alone: admission, removal and receiving. Every call finds bad
 // input itself, and what it refuses changes no record.
 use frame::Reading;
-use frame::layout::Fields;
 use frame::refusal::Refusal;
 use stream::Receipt;
 use stream::Record;
 use stream::Served;
 ghost use mathlib.Core.Path.{_≡_};
 ghost use Prim.Native.Nat.{_<_};
-ghost use lib.ListN.{length, set};
+ghost use lib.Dec.{ltb};
+ghost use lib.ListN.{length, set, replicate};
 ghost use Rattle.frame.specs.Reading.{payloadOf, told as readAs};
 ghost use Rattle.stream.specs.Answers.{told};
+ghost use Rattle.stream.specs.Records.{unused};
 ghost use Rattle.stream.specs.declared.Receipt.the-variants.{Refused};
 ghost use Rattle.table.specs.Table.{at, wants, find, readingFor, receive, receiveAlone, changeNumber, changed, placeToAdmit, placeToRemove, changeOf, placeOf, admit, remove};
 
@@ -35,6 +36,17 @@ pub(crate) enum Target {
 pub enum Change {
     Made,
     Refused(Refusal),
+}
+
+// A whole table by value, with what was answered.
+pub struct Received {
+    pub table: [Record; 64],
+    pub receipt: Receipt,
+}
+
+pub struct Changed {
+    pub table: [Record; 64],
+    pub change: Change,
 }
 
 fn is_wanted(r: Record, wanted: Wanted) -> bool
@@ -76,11 +88,18 @@ fn find(table: &[Record], wanted: Wanted) -> Found
     }
     Found::Nothing
 }
+// A table has at most 64 records.
+fn is_too_long(n: usize) -> bool
+    ensures { λ b. ⌜ b ≡ ltb 64 n ⌝ }
+{
+    n > 64
+}
+
 // A frame for a table of n records: 20 before all else, then what the reader says.
 fn read_for(n: usize, frame: &[u8]) -> Reading
     ensures { λ r. ⌜ readAs r ≡ readingFor n (now (frame .entry)) ⌝ }
 {
-    if n > 64 {
+    if is_too_long(n) {
         return Reading::Refused(Refusal::TableTooLong);
     }
     frame::read(frame)
@@ -144,7 +163,7 @@ pub fn receive(table: &mut [Record], frame: &[u8], arrival_time: u64) -> Receipt
 fn place_to_admit(n: usize, held: Found, free: Found) -> Target
     ensures { λ r. ⌜ r ≡ placeToAdmit n held free ⌝ }
 {
-    if n > 64 {
+    if is_too_long(n) {
         return Target::Refuse(Refusal::TableTooLong);
     }
     match held {
@@ -160,7 +179,7 @@ fn place_to_admit(n: usize, held: Found, free: Found) -> Target
 fn place_to_remove(n: usize, held: Found) -> Target
     ensures { λ r. ⌜ r ≡ placeToRemove n held ⌝ }
 {
-    if n > 64 {
+    if is_too_long(n) {
         return Target::Refuse(Refusal::TableTooLong);
     }
     match held {
@@ -200,4 +219,45 @@ pub fn remove(table: &mut [Record], id: u64) -> Change
     let held = find(table, Wanted::Holding(id));
     let target = place_to_remove(table.len(), held);
     store(table, target, stream::unused())
+}
+
+// The same by value: whoever calls these needs no proof by hand.
+pub fn receive_in(table: [Record; 64], frame: &[u8], arrival_time: u64) -> Received
+    ensures { λ r. ⌜ (told (r .receipt) (payloadOf (now (frame .entry))) ≡ receive table (now (frame .entry)) «arrival_time» .0) × (r .table ≡ receive table (now (frame .entry)) «arrival_time» .1) ⌝ }
+{
+    let mut records = table;
+    let receipt = receive(&mut records, frame, arrival_time);
+    Received {
+        table: records,
+        receipt,
+    }
+}
+
+pub fn admit_in(table: [Record; 64], id: u64) -> Changed
+    ensures { λ r. ⌜ (changeNumber (r .change) ≡ admit table id .0) × (r .table ≡ admit table id .1) ⌝ }
+{
+    let mut records = table;
+    let change = admit(&mut records, id);
+    Changed {
+        table: records,
+        change,
+    }
+}
+
+pub fn remove_in(table: [Record; 64], id: u64) -> Changed
+    ensures { λ r. ⌜ (changeNumber (r .change) ≡ remove table id .0) × (r .table ≡ remove table id .1) ⌝ }
+{
+    let mut records = table;
+    let change = remove(&mut records, id);
+    Changed {
+        table: records,
+        change,
+    }
+}
+
+// A table with every record unused.
+pub fn unused_table() -> [Record; 64]
+    ensures { λ r. ⌜ r ≡ replicate 64 unused ⌝ }
+{
+    [stream::unused(); 64]
 }

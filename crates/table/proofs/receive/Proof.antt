@@ -21,7 +21,7 @@ use contract.Lifetimes.{AllOutlive}
 use contract.Monad.{Fun}
 use contract.Running.{givenOf, tables, tablesOf}
 use types.Kit as Kit
-use types.Kit.{Given, Item, Sq, runs, anyQ, atRet, ‵, _⊛_, mean, _$_, _∵_, !, qed, move, keep, drop, use1, split, join, fsplit, fjoin, suffices, frame, done}
+use types.Kit.{Given, Item, Sq, runs, anyQ, atRet, ‵, _⊛_, mean, _$_, _∵_, !, qed, move, keep, use1, split, join, fsplit, fjoin, suffices, frame, done}
 use types.Part.{agg, whole, sub, look-in}
 use types.Match.{vrt, look-tag, in-variant}
 use types.Run.{look, init, stop, hop, fld, from, load, addr, lit, of-opd, and-then, no-more, assigns, assigns-last, land, first, switches-on, exec, returns, enter, alloc1, alloc0, params1, pass1, pass0}
@@ -43,7 +43,6 @@ use denote.Triple.Statement.{Triple}
 use denote.Triple.Table.{entered, cited}
 use denote.Triple.Walked.{says, Stays, stay-none, stay-none-slice, stay-slice, walkOf, goes-none, goes-none-slice, goes-slice, Walks, ends-at, walked, walk-meets}
 use denote.Exit.{yes}
-use Rattle.frame.specs.declared.refusal.Refusal.{Refusal}
 use Rattle.frame.specs.declared.refusal.Refusal.the-variants.{NotAdmitted}
 use Rattle.frame.specs.declared.layout.Fields.{Fields}
 use Rattle.frame.specs.declared.Reading.{Reading}
@@ -80,7 +79,7 @@ use Rattle.table.proofs.Wanted.Laws as Q′
 use Rattle.table.proofs.Machine.{machR, machS, machP, machN, machU, machG, machQ, machF, after-field, after-part, receipt-field, receipt-part, of-after, of-receipt, of-stream}
 use Rattle.table.proofs.Calls.{calls-is, calls-some}
 use Rattle.table.proofs.Lending.{Mine, calls-sharing, calls-lending}
-use Rattle.table.proofs.Slots.{Slots, freed}
+use Rattle.table.proofs.Locals.{Slots, freed}
 use Rattle.table.proofs.Pieces.{first-of, rest-of, arm-of}
 use Rattle.table.proofs.Searched.{found-within}
 use Rattle.table.proofs.Receiving.{Receives, receives-refused, receives-unadmitted, receives-served}

@@ -1,9 +1,7 @@
 use mathlib.Core.Path.{sym, ap, subst, _∙_}
 use denote.Ref.{now}
 use borrow.Author.Needs.{needs}
-use Rattle.frame.specs.declared.refusal.Refusal.the-variants.{NotAdmitted}
 use Rattle.frame.specs.Reading.{told as readAs}
-use Rattle.stream.specs.declared.Served.{Served}
 use Rattle.table.proofs.Receiving.{ReceivesAlone, alone-refused, alone-unadmitted, alone-served}
 use Rattle.table.proofs.receive_alone.Statement.{statement}
 use Rattle.table.proofs.receive_alone.Tie as tie
