@@ -1,5 +1,4 @@
 use Prim.Native.Nat.{_+_}
-use mathlib.Core.Path.{refl}
 use native.Mathlib.Omega.{arith}
 use lib.Dec.{lit≤}
 use denote.Ref.{now}
@@ -7,39 +6,28 @@ use Rattle.wire.proofs.Numbers.{missing, present, byte-there, beside}
 use borrow.Author.Needs.{needs}
 use Rattle.wire.proofs.be16.Statement.{statement}
 use Rattle.wire.proofs.be16.Tie as tie
-use Rattle.wire.proofs.be16.Reads as reads
-use Rattle.wire.proofs.be16.Lts as lts
-use Rattle.wire.proofs.holds.Reads as holds-reads
 
--- src/lib.rt:21:9
 holds-requires : tie.Need-holds-requires
 holds-requires c κs = search needs
 
--- src/lib.rt:22:9
 returns : tie.Need-returns
 returns c = let a = c .before .before .before .args in missing (a .at) 2 (now (a .s)) (c .before .holds .ensures) (c .if1 .taken)
 
--- src/lib.rt:24:7
 shared-slice-read-result : tie.Need-shared-slice-read-result
 shared-slice-read-result c = let a = c .before .before .before .before .args in omega (arith, present (a .at) 2 (now (a .s)) (c .before .before .holds .ensures) (c .before .if1 .left))
 
--- src/lib.rt:24:7
 cast-result : tie.Need-cast-result
 cast-result c = omega (arith, c .shared-slice-known2 .given (c .before .before .before .before .args .at))
 
--- src/lib.rt:24:32
 add-result : tie.Need-add-result
 add-result c = let a = c .before .before .before .before .args in omega (arith, present (a .at) 2 (now (a .s)) (c .before .before .holds .ensures) (c .before .if1 .left))
 
--- src/lib.rt:24:30
 shared-slice-read-result-2 : tie.Need-shared-slice-read-result-2
 shared-slice-read-result-2 c = let a = c .before .before .before .before .before .args in omega (arith, present (a .at) 2 (now (a .s)) (c .before .before .before .holds .ensures) (c .before .before .if1 .left))
 
--- src/lib.rt:24:30
 cast-result-2 : tie.Need-cast-result-2
 cast-result-2 c = omega (arith, c .shared-slice-known3 .given (c .before .before .before .before .before .args .at + 1))
 
--- src/lib.rt:18:1
 returns-2 : tie.Need-returns-2
 returns-2 c =
     let x = c .before .before in

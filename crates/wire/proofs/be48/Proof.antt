@@ -1,5 +1,3 @@
-use Prim.Native.Nat.{_+_}
-use mathlib.Core.Path.{refl}
 use native.Mathlib.Omega.{arith}
 use lib.Dec.{lit≤}
 use denote.Ref.{now}
@@ -7,41 +5,28 @@ use Rattle.wire.proofs.Numbers.{missing, present, beside}
 use borrow.Author.Needs.{needs}
 use Rattle.wire.proofs.be48.Statement.{statement}
 use Rattle.wire.proofs.be48.Tie as tie
-use Rattle.wire.proofs.be48.Reads as reads
-use Rattle.wire.proofs.be48.Lts as lts
-use Rattle.wire.proofs.be16.Reads as be16-reads
-use Rattle.wire.proofs.be32.Reads as be32-reads
-use Rattle.wire.proofs.holds.Reads as holds-reads
 
--- src/lib.rt:39:9
 holds-requires : tie.Need-holds-requires
 holds-requires c κs = search needs
 
--- src/lib.rt:40:9
 returns : tie.Need-returns
 returns c = let a = c .before .before .before .args in missing (a .at) 6 (now (a .s)) (c .before .holds .ensures) (c .if1 .taken)
 
--- src/lib.rt:42:7
 be16-requires : tie.Need-be16-requires
 be16-requires c κs = search needs
 
--- src/lib.rt:42:7
 cast-result : tie.Need-cast-result
 cast-result c = search needs
 
--- src/lib.rt:42:45
 add-be32 : tie.Need-add-be32
 add-be32 c = let a = c .before .before .before .before .args in omega (arith, present (a .at) 6 (now (a .s)) (c .before .before .holds .ensures) (c .before .if1 .left))
 
--- src/lib.rt:42:37
 be32-requires : tie.Need-be32-requires
 be32-requires c κs = search needs
 
--- src/lib.rt:42:37
 cast-result-2 : tie.Need-cast-result-2
 cast-result-2 c = search needs
 
--- src/lib.rt:36:1
 returns-2 : tie.Need-returns-2
 returns-2 c =
     let x = c .before .before in
