@@ -65,10 +65,11 @@ pub fn reckon(arrival_time: u64, stamp: u32) -> Timing
     if u64::MAX - arrival_time < on {
         return untimed(Kind::Outside, offset);
     }
+    let time = arrival_time + on;
     Timing {
         kind: Kind::Ahead,
         offset,
-        time: arrival_time + on,
+        time,
     }
 }
 

@@ -55,8 +55,8 @@ returns-3 c =
     let T = c .before .before .before .args .stamp in
     reckoned L T (c .untimed2 .ensures) (past-end L (distance L T) (omega arith) (omega arith) (omega arith))
 
-add-t8 : tie.Need-add-t8
-add-t8 c = search needs
+add-time : tie.Need-add-time
+add-time c = search needs
 
 returns-4 : tie.Need-returns-4
 returns-4 c =
@@ -81,5 +81,5 @@ reckon-spec =
     sub-if3
     untimed-requires-2
     returns-3
-    add-t8
+    add-time
     returns-4)
