@@ -1,19 +1,17 @@
 -- A newly admitted listener of one sender's successive frames raises no sequence or block flag. Assumes nothing.
 use Prim.Native.Nat.{ℕ, zero, suc, _+_, _%_, _≤_, _<_}
 use mathlib.Core.Path.{_≡_, refl, sym, ap, _∙_, subst}
-use mathlib.Core.Bool.{Bool, true, false, not, cond, _||_, false≢true}
+use mathlib.Core.Bool.{Bool, true, false, cond, _||_, false≢true}
 use mathlib.Core.List.{List, [], _∷_, _++_}
 use mathlib.Core.Option.{some}
 use native.Mathlib.Omega.{arith}
 use borrow.Author.Tests.{ltb-false, le-ltb, not-false}
-use lib.Dec.{ltb}
 use lib.ListN.{length, drop, set, getElem?, length-set}
 use Rattle.frame.specs.declared.layout.Fields.{Fields}
 use Rattle.frame.specs.Layout.{fieldsOf}
-use Rattle.frame.specs.Refusals.{Check, _answers_, firstOf}
-use Rattle.frame.specs.Checks.{frameChecks, refusal}
-use Rattle.frame.proofs.First.{clear, then, orElse}
-use Rattle.frame.proofs.Groups.{frame-numbered}
+use Rattle.frame.specs.Refusals.{firstOf}
+use Rattle.frame.specs.Checks.{refusal}
+use Rattle.frame.proofs.First.{clear, orElse}
 use Rattle.writer.specs.declared.Sender.{Sender}
 use Rattle.writer.specs.Frames.{frameOf}
 use Rattle.writer.specs.Writing.{writeRefusal, next, outcome, writing}
@@ -27,7 +25,8 @@ use Rattle.stream.specs.declared.Record.{Record}
 use Rattle.stream.specs.Records.{admitted}
 use Rattle.stream.specs.Answers.{Answer, answerOf, after, idOf}
 use Rattle.stream.proofs.Laws.{Expects, expects-any, no-breaks, expects-next}
-use Rattle.table.specs.Table.{Table, holds, isUnused, any, place, admitChecks, changed, admit, receiveChecks, numberWith}
+use Rattle.table.specs.Table.{Table, holds, isUnused, any, place, admitChecks, changed, admit, numberWith}
+use Rattle.table.proofs.Receiving.{number-then}
 use Rattle.arrivals.specs.Arrivals.{Arrival, run, ofStream, StreamRecord, those, answersTo, replay}
 use Rattle.arrivals.specs.Listener.{OneId, Unbroken, frames, Listener}
 use Rattle.arrivals.proofs.Places.{stream-place, one-higher}
@@ -125,10 +124,8 @@ admitted-table t k e =
 -- ---- every frame is accepted
 
 accepts : (u : Table) (frame : List ℕ) → length u ≤ 64 → refusal frame ≡ 0 → any (holds (idOf frame)) u ≡ true → numberWith u frame ≡ 0
-unfolding numberWith refusal orElse firstOf
-accepts u frame short e h =
-    let b = not (any (holds (idOf frame)) u) in
-    rw (le-ltb 64 (length u) short) (then (frameChecks frame) ((b answers 15) ∷ []) (frame-numbered frame) ∙ rw (e, h))
+unfolding refusal orElse firstOf
+accepts u frame short e h = number-then u frame ∙ rw (le-ltb 64 (length u) short, e, h)
 
 module _ (u : Table) (k : ℕ) (x : Admitted u k) where
   abbrev AllMine : List Arrival → Type 0

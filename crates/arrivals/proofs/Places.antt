@@ -9,16 +9,14 @@ use native.Mathlib.Omega.{arith}
 use lib.Dec.{eqb, ltb}
 use lib.ListN.{length, getD, set, getElem?, length-map}
 use lib.Seq.{map-set-same}
-use borrow.Author.Tests.{eqb-true, eq-eqb, not-false}
-use Rattle.frame.specs.Refusals.{Check, _answers_, firstOf}
-use Rattle.frame.specs.Checks.{frameChecks}
-use Rattle.frame.proofs.First.{clear, then, both}
-use Rattle.frame.proofs.Groups.{frame-numbered}
+use borrow.Author.Tests.{eqb-true, eq-eqb}
+use Rattle.frame.proofs.First.{both}
 use Rattle.stream.specs.declared.Record.{Record}
 use Rattle.stream.specs.Records.{unused}
 use Rattle.stream.specs.Answers.{Answer, refusedWith, answerOf, after, idOf}
 use Rattle.stream.proofs.Laws.{after-in-use, after-id}
-use Rattle.table.specs.Table.{Table, holds, any, place, at, receiveChecks, numberWith, receiveBy, receive}
+use Rattle.table.specs.Table.{Table, holds, any, place, at, numberWith, receiveBy, receive}
+use Rattle.table.proofs.Receiving.{numberBefore, unadmitted, number-then}
 use Rattle.arrivals.specs.Arrivals.{Arrival, StreamRecord}
 
 -- ---- a list's place
@@ -147,15 +145,12 @@ unfolding verdict
 number-place t a e = rw e
 
 pub number-any : (t : Table) (frame : List ℕ) → numberWith t frame ≡ 0 → any (holds (idOf frame)) t ≡ true
-unfolding numberWith
 number-any t frame e =
-    let admitted = any (holds (idOf frame)) t in
-    not-false admitted (clear ((not admitted answers 15) ∷ []) tt (last e) .0)
+    go (any (holds (idOf frame)) t) (both (numberBefore (length t) frame) (unadmitted (any (holds (idOf frame)) t)) (sym (number-then t frame) ∙ e) .1)
   where
-    last : firstOf (receiveChecks t frame) ≡ 0 → firstOf ((not (any (holds (idOf frame)) t) answers 15) ∷ []) ≡ 0
-    last e =
-        let p = both _ _ (sym (then ((ltb 64 (length t) answers 20) ∷ []) (frameChecks frame ++ (not (any (holds (idOf frame)) t) answers 15) ∷ []) tt) ∙ e) in
-        both _ _ (sym (then (frameChecks frame) ((not (any (holds (idOf frame)) t) answers 15) ∷ []) (frame-numbered frame)) ∙ p .1) .1
+    go : (b : Bool) → unadmitted b ≡ 0 → b ≡ true
+    go true e = refl
+    go false e = absurd (omega arith)
 
 -- ---- a verdict goes by the keys alone, and no call changes a key
 

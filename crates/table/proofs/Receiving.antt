@@ -13,10 +13,11 @@ use Rattle.frame.specs.declared.layout.Fields.{Fields}
 use Rattle.frame.specs.declared.Reading.the-variants.{Accepted, Refused}
 use Rattle.frame.specs.Layout.{fieldsOf}
 use Rattle.frame.specs.Refusals.{numberOf, Check, _answers_, firstOf}
-use Rattle.frame.specs.Checks.{lengthChecks, ethernetChecks, avtpChecks, addressChecks, streamChecks, blockChecks, headerChecks, readChecks, frameChecks, refusal}
+use Rattle.frame.specs.Checks.{frameChecks, refusal}
 use Rattle.frame.specs.Reading.{Answer as ReadAnswer, answer, reading, payloadOf, told as readAs}
 use Rattle.frame.proofs.First.{positive, orElse, then}
 use Rattle.stream.specs.declared.Record.{Record}
+use Rattle.frame.proofs.Groups.{frame-numbered}
 use Rattle.stream.specs.declared.Receipt.{Receipt}
 use Rattle.stream.specs.declared.Served.{Served}
 use Rattle.stream.specs.declared.Receipt.the-variants as receipt
@@ -29,19 +30,19 @@ use Rattle.table.specs.Table.{Table, any, place, holds, at, find, number
 use Rattle.table.proofs.Searched.{found-at, found-none}
 
 -- ---- the number, from the reader's and the search's
-abbrev tooLong : ℕ → Check
+abbrev pub tooLong : ℕ → Check
 tooLong n = ltb 64 n answers 20
 
 -- before the table is searched
-abbrev numberBefore : ℕ → List ℕ → ℕ
+abbrev pub numberBefore : ℕ → List ℕ → ℕ
 numberBefore n frame = firstOf (tooLong n ∷ frameChecks frame)
 
-abbrev unadmitted : Bool → ℕ
+abbrev pub unadmitted : Bool → ℕ
 unadmitted found = cond (not found) 15 0
 
 pub number-then : (t : Table) (frame : List ℕ) → numberWith t frame ≡ orElse (numberBefore (length t) frame) (unadmitted (any (holds (idOf frame)) t))
-unfolding numberWith firstOf frameChecks readChecks lengthChecks headerChecks ethernetChecks avtpChecks addressChecks streamChecks blockChecks
-number-then t frame = then (tooLong (length t) ∷ frameChecks frame) (not (any (holds (idOf frame)) t) answers 15 ∷ []) tt
+unfolding numberWith firstOf
+number-then t frame = then (tooLong (length t) ∷ frameChecks frame) (not (any (holds (idOf frame)) t) answers 15 ∷ []) (frame-numbered frame)
 
 past-20 : (b : Bool) (n : ℕ) → cond b 20 n ≡ 0 → n ≡ 0
 past-20 true n e = absurd (omega (arith, e))
