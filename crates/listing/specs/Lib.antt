@@ -5,3 +5,4 @@ pub mod Listing
 pub mod Bound
 pub mod Example
 pub mod Chunks
+pub mod Progress
