@@ -72,9 +72,9 @@ module _ (d d′ line : List ℕ) (p : Progress) (size : ℕ) where
   abbrev wrote : Bool → Writing
   wrote b = cond b (record { put = true; end = p .put + length line; buffer = sets d (p .put) line }) (record { put = false; end = 0; buffer = d })
 
-  none-by : (b : Bool) → told NoRoom d′ ≡ wrote b → Is-put (halted p) b
+  none-by : (b : Bool) → told NoRoom d′ ≡ wrote b → Is-put (halted p) b × (d′ ≡ d)
   none-by true e = absurd (subst T (sym (ap (λ (w : Writing). w .put) e)) tt)
-  none-by false e = (refl, ap (λ (w : Writing). w .buffer) e)
+  none-by false e = ((refl, ap (λ (w : Writing). w .buffer) e), ap (λ (w : Writing). w .buffer) e)
 
   put-by : (b : Bool) (up-to : ℕ) → told (UpTo up-to) d′ ≡ wrote b → Is-put (record { at = p .at + size; put = up-to; records = next (p .records); going = true }) b
   put-by true up-to e = ((λ i. record { at = p .at + size; put = e i .end; records = next (p .records); going = true }), ap (λ (w : Writing). w .buffer) e)
@@ -83,10 +83,13 @@ module _ (d d′ line : List ℕ) (p : Progress) (size : ℕ) where
   abbrev Said : Progress → Type 0
   Said r = (r ≡ putWhole size line p d .0) × (d′ ≡ putWhole size line p d .1)
 
-  pub none-put : told NoRoom d′ ≡ writing d (p .put) line → Said (halted p)
+  pub none-put : told NoRoom d′ ≡ writing d (p .put) line → Said (halted p) × (d′ ≡ d)
   unfolding writing putWhole
   none-put e = none-by (roomy (length d) (p .put)) e
 
   pub line-put : (up-to : ℕ) → told (UpTo up-to) d′ ≡ writing d (p .put) line → Said (record { at = p .at + size; put = up-to; records = next (p .records); going = true })
   unfolding writing putWhole
   line-put up-to e = put-by (roomy (length d) (p .put)) up-to e
+
+pub stays : (r p : Progress) (d d′ : List ℕ) → r ≡ halted p → d′ ≡ d → p .put ≤ length d → r .put ≤ length d′
+stays r p d d′ e f h = rw (e, f) h

@@ -6,3 +6,5 @@ pub mod Chunks
 pub mod Lent
 pub mod Obeying
 pub mod Callees
+pub mod Turns
+pub mod Turning

@@ -7,7 +7,7 @@ use stream::Receipt;
 use stream::Record;
 use table::Change;
 ghost use mathlib.Core.Path.{_≡_};
-ghost use Prim.Native.Nat.{_+_, _<_, _^_};
+ghost use Prim.Native.Nat.{_+_, _<_, _≤_, _^_};
 ghost use mathlib.Core.Bool.{cond};
 ghost use mathlib.Core.List.{[]};
 ghost use lib.ListN.{length, drop};
@@ -17,7 +17,7 @@ ghost use Rattle.table.specs.Table.{changeNumber};
 ghost use Rattle.listing.specs.Lines.{admitted, removed, lineOf, lineText};
 ghost use Rattle.listing.specs.Listing.{changeLine, frameLine, stepBy, next};
 ghost use Rattle.listing.specs.Writing.{roomy};
-ghost use Rattle.listing.specs.Progress.{halted, sizeAhead, putWhole, putNext};
+ghost use Rattle.listing.specs.Progress.{halted, sizeAhead, putWhole, putNext, ChunkListed};
 ghost use Rattle.listing.specs.Chunks.{lineAfter, tableAfter};
 
 // How far the chunk is listed.
@@ -99,7 +99,7 @@ fn stopped(p: Progress) -> Progress
 // The line of a record of this size.
 fn put_whole(out: &mut [u8], p: Progress, size: usize, outcome: Outcome) -> Progress
     requires { ⌜ p .at + size < 2 ^ 64 ⌝ }
-    ensures { λ r. ⌜ (r ≡ putWhole size (lineText (next (p .records)) (lineOf outcome)) p (now (out .entry)) .0) × (now (out .exit) ≡ putWhole size (lineText (next (p .records)) (lineOf outcome)) p (now (out .entry)) .1) ⌝ }
+    ensures { λ r. ⌜ (r ≡ putWhole size (lineText (next (p .records)) (lineOf outcome)) p (now (out .entry)) .0) × ((now (out .exit) ≡ putWhole size (lineText (next (p .records)) (lineOf outcome)) p (now (out .entry)) .1) × (p .put ≤ length (now (out .entry)) → r .put ≤ length (now (out .exit)))) ⌝ }
 {
     let records = std::num::wrapping_add_u64(p.records, 1);
     match crate::put_record(out, p.put, records, outcome) {
@@ -116,7 +116,7 @@ fn put_whole(out: &mut [u8], p: Progress, size: usize, outcome: Outcome) -> Prog
 // The line of a record that is whole.
 pub(crate) fn put_next(out: &mut [u8], p: Progress, entry: Entry, outcome: Outcome) -> Progress
     requires { ⌜ p .at + sizeAhead (told entry) < 2 ^ 64 ⌝ }
-    ensures { λ r. ⌜ (r ≡ putNext (told entry) (lineText (next (p .records)) (lineOf outcome)) p (now (out .entry)) .0) × (now (out .exit) ≡ putNext (told entry) (lineText (next (p .records)) (lineOf outcome)) p (now (out .entry)) .1) ⌝ }
+    ensures { λ r. ⌜ (r ≡ putNext (told entry) (lineText (next (p .records)) (lineOf outcome)) p (now (out .entry)) .0) × ((now (out .exit) ≡ putNext (told entry) (lineText (next (p .records)) (lineOf outcome)) p (now (out .entry)) .1) × (p .put ≤ length (now (out .entry)) → r .put ≤ length (now (out .exit)))) ⌝ }
 {
     match entry {
         Entry::End => stopped(p),
@@ -156,4 +156,23 @@ pub(crate) fn obey(table: &mut [Record], chunk: &[u8], at: usize, entry: Entry) 
             removed
         }
     }
+}
+
+// The whole records at the front of the chunk, as far as the output has room for their lines. `records` were listed before.
+pub fn list_chunk(table: &mut [Record], chunk: &[u8], out: &mut [u8], records: u64) -> Progress
+    ensures { λ r. ⌜ ChunkListed (now (chunk .entry)) (now (table .entry)) records (now (out .entry)) r (now (table .exit)) (now (out .exit)) ⌝ }
+{
+    let mut p = Progress {
+        at: 0,
+        put: 0,
+        records,
+        going: true,
+    };
+    while p.going {
+        let entry = front_of(chunk, p.at, out.len(), p.put);
+        let outcome = obey(table, chunk, p.at, entry);
+        let next = put_next(out, p, entry, outcome);
+        p = next;
+    }
+    p
 }

@@ -1,9 +1,11 @@
 use Prim.Native.Nat.{_+_, _<_, _^_}
 use mathlib.Core.Path.{refl, subst}
 use borrow.Author.Needs.{needs}
+use denote.Ref.{now}
 use Rattle.capture.specs.declared.Entry.{Entry}
 use Rattle.capture.specs.Records.{told}
 use Rattle.listing.specs.Progress.{sizeAhead}
+use Rattle.listing.proofs.Chunks.{stays}
 use Rattle.listing.proofs.chunk.put_next.Statement.{statement}
 use Rattle.listing.proofs.chunk.put_next.Tie as tie
 
@@ -32,10 +34,10 @@ put-whole-requires-4 c κs =
     subst (λ (e : Entry). asked .args .p .at + sizeAhead (told e) < 2 ^ 64) (given .entry4 .given .1) (asked .pre)
 
 returns : tie.Need-returns
-returns c = rw (c .before .enum-told .given .1) (c .stopped .ensures, refl)
+returns c = let a = c .before .before .before .before .args in rw (c .before .enum-told .given .1) (c .stopped .ensures, (refl, stays (c .stopped .result) (a .p) (now (a .out)) (now (a .out)) (c .stopped .ensures) refl))
 
 returns-2 : tie.Need-returns-2
-returns-2 c = rw (c .before .enum-told2 .given .1) (c .stopped2 .ensures, refl)
+returns-2 c = let a = c .before .before .before .before .args in rw (c .before .enum-told2 .given .1) (c .stopped2 .ensures, (refl, stays (c .stopped2 .result) (a .p) (now (a .out)) (now (a .out)) (c .stopped2 .ensures) refl))
 
 returns-3 : tie.Need-returns-3
 returns-3 c = let done = c .before .before in rw (done .before .before .before .entry .given .1) (done .put-whole .ensures)
