@@ -3,3 +3,9 @@ pub mod Puts
 pub mod Signs
 pub mod Bound
 pub mod InChunks
+pub mod Chunks
+pub mod Lent
+pub mod Obeying
+pub mod Callees
+pub mod Turns
+pub mod Turning

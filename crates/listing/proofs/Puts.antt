@@ -12,7 +12,7 @@ use lib.Seq.{sets, take-suc, length-take-le, length-sets}
 use Rattle.listing.specs.declared.Written.the-variants.{UpTo, NoRoom}
 use Rattle.listing.specs.Writing.{Put, lineRoom, roomy, writing, told}
 
-sets-append : (s t d : List ℕ) (i : ℕ) → sets d i (s ++ t) ≡ sets (sets d i s) (i + length s) t
+pub sets-append : (s t d : List ℕ) (i : ℕ) → sets d i (s ++ t) ≡ sets (sets d i s) (i + length s) t
 sets-append [] t d i = ap (λ (k : ℕ). sets d k t) (sym (add-zero i))
 sets-append (a ∷ s) t d i =
     sets-append s t (set d i a) (suc i) ∙ ap (λ (k : ℕ). sets (sets (set d i a) (suc i) s) k t) (suc-add i (length s) ∙ sym (add-suc i (length s)))

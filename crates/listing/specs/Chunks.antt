@@ -4,9 +4,20 @@ use mathlib.Core.Bool.{Bool, true, false, cond}
 use mathlib.Core.List.{List, [], _++_}
 use lib.ListN.{length}
 use Rattle.table.specs.Table.{Table}
-use Rattle.listing.specs.Lines.{lineText}
+use Rattle.listing.specs.Lines.{Line, refused, lineText}
 use Rattle.listing.specs.Writing.{roomy}
 use Rattle.listing.specs.Listing.{Step, done, last, more, stepOf, next}
+
+-- the line of a step, where nothing is left that of a record that is cut, and the table after it
+abbrev pub lineAfter : Step → Line
+lineAfter done = refused 41
+lineAfter (last line) = line
+lineAfter (more line rest t) = line
+
+abbrev pub tableAfter : Table → Step → Table
+tableAfter t done = t
+tableAfter t (last line) = t
+tableAfter t (more line rest u) = u
 
 -- a chunk under way: the bytes that remain of it, the text so far, the records listed in all, the table, and whether it goes on
 pub record Run : Type 0 where

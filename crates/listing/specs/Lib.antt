@@ -6,3 +6,4 @@ pub mod Bound
 pub mod Example
 pub mod Chunks
 pub mod InChunks
+pub mod Progress

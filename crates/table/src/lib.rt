@@ -88,6 +88,7 @@ fn find(table: &[Record], wanted: Wanted) -> Found
     }
     Found::Nothing
 }
+
 // A table has at most 64 records.
 fn is_too_long(n: usize) -> bool
     ensures { λ b. ⌜ b ≡ ltb 64 n ⌝ }
@@ -105,6 +106,7 @@ fn read_for(n: usize, frame: &[u8]) -> Reading
     frame::read(frame)
 }
 
+// A refusal leaves the record as it was.
 fn refused(last: Record, refusal: Refusal) -> Served
     ensures { λ r. ⌜ r ≡ record { after = last; receipt = Refused refusal } ⌝ }
 {
@@ -221,7 +223,7 @@ pub fn remove(table: &mut [Record], id: u64) -> Change
     store(table, target, stream::unused())
 }
 
-// The same by value: whoever calls these needs no proof by hand.
+// Receiving, admission and removal over a table of 64 records by value.
 pub fn receive_in(table: [Record; 64], frame: &[u8], arrival_time: u64) -> Received
     ensures { λ r. ⌜ (told (r .receipt) (payloadOf (now (frame .entry))) ≡ receive table (now (frame .entry)) «arrival_time» .0) × (r .table ≡ receive table (now (frame .entry)) «arrival_time» .1) ⌝ }
 {
