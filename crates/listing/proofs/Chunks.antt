@@ -1,5 +1,5 @@
 -- What a chunk comes to, turn by turn. Assumes nothing.
-use Prim.Native.Nat.{ℕ, zero, suc, _+_, _-_, _≤_, _<_}
+use Prim.Native.Nat.{ℕ, zero, suc, _+_, _-_, _≤_}
 use mathlib.Core.Path.{_≡_, refl, sym, ap, _∙_, subst}
 use mathlib.Core.Bool.{Bool, true, false, cond}
 use mathlib.Core.List.{List, [], _∷_}
@@ -12,7 +12,7 @@ use Rattle.frame.specs.Refusals.{numberOf}
 use Rattle.frame.proofs.First.{positive}
 use Rattle.stream.specs.declared.Receipt.the-variants.{Refused}
 use Rattle.stream.specs.Answers.{refusedWith, told as answered}
-use Rattle.capture.specs.Records.{Front, end, entryOf, frameOf}
+use Rattle.capture.specs.Records.{end, entryOf, frameOf}
 use Rattle.listing.specs.declared.chunk.Progress.{Progress}
 use Rattle.listing.specs.declared.Written.the-variants.{UpTo, NoRoom}
 use Rattle.listing.specs.Lines.{Line, refused}

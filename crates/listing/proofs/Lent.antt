@@ -21,8 +21,7 @@ use types.Run.{Opds}
 use types.Tokens.{lft-new, lft-end}
 use denote.RattleType.{RattleType}
 use denote.Laws.{Is, shows}
-use denote.Ref.{RefT}
-use denote.Slice.{sliceVal, MutSlice, Room, finally}
+use denote.Slice.{Room, finally}
 use denote.Steps.{only, heard, peeks, nothing}
 use denote.Triple.Statement.{Contract, Triple}
 use denote.Triple.Call.{calls-at}

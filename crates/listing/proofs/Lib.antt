@@ -9,3 +9,4 @@ pub mod Obeying
 pub mod Callees
 pub mod Turns
 pub mod Turning
+pub mod Local

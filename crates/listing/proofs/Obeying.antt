@@ -10,7 +10,7 @@ use Rattle.stream.specs.declared.Record.{Record}
 use Rattle.stream.specs.declared.Receipt.{Receipt}
 use Rattle.stream.specs.declared.Receipt.the-variants as receipt
 use Rattle.stream.specs.Records.{unused, admitted as new}
-use Rattle.stream.specs.Answers.{Answer, refusedWith, told as answered}
+use Rattle.stream.specs.Answers.{Answer, told as answered}
 use Rattle.table.specs.declared.Change.{Change}
 use Rattle.table.specs.Table.{Table, place, holds, isUnused, admitChecks, removeChecks, changed, changeNumber, admit, remove, numberWith, receiveBy, receive}
 use Rattle.listing.specs.declared.Outcome.{Outcome}

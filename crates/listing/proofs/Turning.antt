@@ -13,7 +13,7 @@ use base.Fml.{Lft, Share, GName, ftrue, flft}
 use prog.Memory.{Memory}
 use prog.Routine.{Routine}
 use prog.Wp.{Heap}
-use ghost.Atoms.{Atoms, sem}
+use ghost.Atoms.{Atoms}
 use contract.Monad.{Fun, fact, factI}
 use types.Kit.{Given, Item, ‵, raw, _⊛_, some, later, mean, _$_, _∵_, !, qed, by, move, use1, drop, split, join, pick, rewrite, fsplit, fjoin, frame, await, updating, now as at-once, show, done}
 use denote.Laws.{Is, shows}

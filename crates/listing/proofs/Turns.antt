@@ -16,7 +16,7 @@ use Rattle.listing.specs.Lines.{Line, admitted, removed, refused, lineTe
 use Rattle.listing.specs.Listing.{changeLine, frameLine, stepBy, stepOf, next}
 use Rattle.listing.specs.Writing.{roomy}
 use Rattle.listing.specs.Chunks.{Run, stopped, turnBy, turn, turns, chunked, usedOf, lineAfter, tableAfter}
-use Rattle.listing.specs.Progress.{halted, passed, sizeAhead, putWhole, putNext, ChunkListed}
+use Rattle.listing.specs.Progress.{passed, sizeAhead, putWhole, putNext, ChunkListed}
 use Rattle.listing.proofs.Puts.{sets-append}
 use Rattle.listing.proofs.Obeying.{length-admit, length-remove, length-receive}
 

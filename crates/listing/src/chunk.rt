@@ -176,3 +176,21 @@ pub fn list_chunk(table: &mut [Record], chunk: &[u8], out: &mut [u8], records: u
     }
     p
 }
+
+// A chunk that is listed with a table by value.
+pub struct Listed {
+    pub table: [Record; 64],
+    pub progress: Progress,
+}
+
+// The same with a table by value, for callers that hold no reference to one.
+pub fn list_chunk_in(table: [Record; 64], chunk: &[u8], out: &mut [u8], records: u64) -> Listed
+    ensures { λ r. ⌜ ChunkListed (now (chunk .entry)) table records (now (out .entry)) (r .progress) (r .table) (now (out .exit)) ⌝ }
+{
+    let mut lent = table;
+    let progress = list_chunk(&mut lent, chunk, out, records);
+    Listed {
+        table: lent,
+        progress,
+    }
+}

@@ -1,5 +1,5 @@
 // The text of a listing, a line at a time, put into a buffer that the caller lends.
-mod chunk;
+pub mod chunk;
 mod lines;
 mod text;
 

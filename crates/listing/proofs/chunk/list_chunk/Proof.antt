@@ -7,7 +7,7 @@ use native.Mathlib.Omega.{arith}
 use mathlib.Core.Bool.{Bool, true, false, not}
 use mathlib.Core.Option.{Option, none, some as is}
 use mathlib.Core.List.{List, [], _∷_}
-use mathlib.Core.WellFounded.{WellFounded, InvImage·wf}
+use mathlib.Core.WellFounded.{InvImage·wf}
 use lib.ListN.{length}
 use lib.Seq.{length-sets}
 use lib.WfN.{Nat·lt-wfRel}
