@@ -2,19 +2,19 @@
 use Prim.Native.Nat.{ℕ, zero, suc}
 use mathlib.Core.Path.{_≡_, refl, sym, ap, _∙_, subst, fun-ext}
 use mathlib.Core.Logic.{_≢_}
-use mathlib.Core.Bool.{Bool, true, false, false≢true}
-use mathlib.Core.List.{List, [], _∷_, _++_}
+use mathlib.Core.Bool.{true, false, false≢true}
+use mathlib.Core.List.{List, [], _∷_}
 use mathlib.Core.Option.{some}
 use native.Mathlib.Omega.{arith}
 use lib.Dec.{eqb}
 use lib.ListN.{length, getElem?, length-set}
-use borrow.Author.Tests.{eqb-true, eqb-false, eq-eqb}
+use borrow.Author.Tests.{eqb-true, eq-eqb}
 use Rattle.stream.specs.declared.Record.{Record}
 use Rattle.stream.specs.Records.{admitted}
-use Rattle.stream.specs.Answers.{Answer, after, idOf}
+use Rattle.stream.specs.Answers.{after, idOf}
 use Rattle.table.specs.Table.{Table, holds, place, at, only, numberWith, receiveBy, receive, receiveAlone}
-use Rattle.arrivals.specs.Arrivals.{Arrival, run, runAlone, isAccepted, ofStream, OneStream, StreamRecord, those, answersTo, replay, swap, Counted, Claim}
-use Rattle.arrivals.proofs.Places.{and-both, stream-place, place-stream, one-stream, Verdict, refused, accepted, verdict, refused-verdict, accepted-number, number-place, number-any}
+use Rattle.arrivals.specs.Arrivals.{Arrival, run, runAlone, isAccepted, ofStream, OneStream, StreamRecord, those, answersTo, replay, Counted, Claim}
+use Rattle.arrivals.proofs.Places.{and-both, stream-place, place-stream, one-stream, accepted, verdict, refused-verdict, accepted-number, number-place, number-any}
 use Rattle.arrivals.proofs.Directed.{directed, run-directed, one-answer-each, length-kept, place-kept, refused-at, as-replay, exchange-answers, exchange-table}
 use Rattle.arrivals.proofs.Counts.{replay-counted}
 

@@ -5,13 +5,13 @@ use mathlib.Core.Path.{_≡_, refl, sym, ap, _∙_}
 use mathlib.Core.Logic.{_≢_}
 use mathlib.Core.Bool.{Bool, true, false, cond}
 use mathlib.Core.List.{List, [], _∷_, _++_, map}
-use mathlib.Core.Option.{Option, none, some}
-use lib.ListN.{length, getD, set, getElem?, length-set}
+use mathlib.Core.Option.{some}
+use lib.ListN.{length, set, getElem?, length-set}
 use lib.Seq.{getD-set-other, set-comm}
 use Rattle.stream.specs.declared.Record.{Record}
 use Rattle.stream.specs.Records.{unused}
 use Rattle.stream.specs.Answers.{Answer, refusedWith, answerOf, after}
-use Rattle.table.specs.Table.{Table, at, receive}
+use Rattle.table.specs.Table.{Table, at}
 use Rattle.arrivals.specs.Arrivals.{Arrival, run, replay, those, answersTo, swap}
 use Rattle.arrivals.proofs.Places.{at-getD, at-set-same, at-set-other, Verdict, refused, accepted, verdict, serve, receive-serve, key, verdict-same, serve-keys}
 

@@ -1,12 +1,11 @@
 -- A newly admitted listener of one sender's successive frames raises no sequence or block flag. Assumes nothing.
-use Prim.Native.Nat.{ℕ, zero, suc, _+_, _%_, _≤_, _<_}
+use Prim.Native.Nat.{ℕ, zero, suc, _+_, _≤_}
 use mathlib.Core.Path.{_≡_, refl, sym, ap, _∙_, subst}
 use mathlib.Core.Bool.{Bool, true, false, cond, _||_, false≢true}
 use mathlib.Core.List.{List, [], _∷_, _++_}
-use mathlib.Core.Option.{some}
 use native.Mathlib.Omega.{arith}
 use borrow.Author.Tests.{ltb-false, le-ltb, not-false}
-use lib.ListN.{length, drop, set, getElem?, length-set}
+use lib.ListN.{length, drop, set, length-set}
 use Rattle.frame.specs.declared.layout.Fields.{Fields}
 use Rattle.frame.specs.Layout.{fieldsOf}
 use Rattle.frame.specs.Refusals.{firstOf}

@@ -1,7 +1,7 @@
 -- What the answer of `read` tells of the frame. Assumes nothing.
 use Prim.Native.Nat.{ℕ, zero, suc, _+_, _≤_}
 use mathlib.Core.Path.{_≡_, refl, sym, ap, _∙_}
-use mathlib.Core.List.{List, []}
+use mathlib.Core.List.{List}
 use native.Mathlib.Omega.{arith}
 use borrow.Author.Tests.{le-ltb}
 use lib.ListN.{length}
@@ -16,7 +16,7 @@ use Rattle.frame.specs.declared.refusal.Verdict.the-variants as verdict
 use Rattle.frame.specs.Layout.{headerOf, cipOf, fieldsOf}
 use Rattle.frame.specs.Refusals.{verdictNumber, numberOf, firstOf}
 use Rattle.frame.specs.Checks.{lengthChecks, headerChecks, blockChecks, frameChecks, refusal}
-use Rattle.frame.specs.Reading.{Answer, noFields, answer, reading, told, payloadOf, dataOf}
+use Rattle.frame.specs.Reading.{Answer, answer, reading, told, payloadOf, dataOf}
 use Rattle.frame.proofs.First.{positive, stop, go}
 use Rattle.frame.proofs.Groups.{read-then, accepted-room}
 

@@ -1,7 +1,7 @@
 -- What the first check that applies answers. `search firsts depth 9` proves `n ≡ firstOf ..` of a group of checks from the tests on
 -- the way; `search groups depth 9` proves `n ≡ orElse ..` of several groups from what each answered. Assumes nothing.
 use Prim.Native.Nat.{ℕ, zero, suc, _<_}
-use mathlib.Core.Path.{_≡_, refl, sym, _∙_}
+use mathlib.Core.Path.{_≡_, refl}
 use mathlib.Core.Bool.{Bool, true, false, not, _&&_, cond}
 use mathlib.Core.List.{List, [], _∷_, _++_}
 use native.Mathlib.Omega.{arith}

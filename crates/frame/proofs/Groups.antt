@@ -1,11 +1,10 @@
 -- The groups of a frame's checks, one after another, and what holds where none applies. Assumes nothing.
-use Prim.Native.Nat.{ℕ, zero, suc, _+_, _-_, _*_, _≤_, _<_}
-use mathlib.Core.Path.{_≡_, refl, sym, ap, _∙_}
+use Prim.Native.Nat.{ℕ, zero, suc, _+_, _-_, _≤_, _<_}
+use mathlib.Core.Path.{_≡_, refl, sym, _∙_}
 use mathlib.Core.List.{List, _++_}
 use native.Mathlib.Omega.{arith}
 use borrow.Author.Tests.{ltb-false}
 use lib.Dec.{T}
-use lib.ListN.{length}
 use Rattle.frame.specs.declared.layout.Stream.{Stream}
 use Rattle.frame.specs.declared.layout.Header.{Header}
 use Rattle.frame.specs.declared.layout.Fields.{Fields}

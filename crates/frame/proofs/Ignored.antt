@@ -2,15 +2,14 @@
 use Prim.Native.Nat.{ℕ, zero, suc, _+_, _-_, _*_, _/_, _%_, _^_, _<_, _≤_}
 use mathlib.Core.Path.{_≡_, refl, sym, ap, _∙_}
 use mathlib.Core.Logic.{⊎-elim}
-use mathlib.Core.List.{List, [], _∷_, _++_}
+use mathlib.Core.List.{List, [], _∷_}
 use native.Mathlib.Nat.{mod-eq-of-lt, mod-lt}
 use native.Mathlib.Omega.{arith}
 use borrow.Author.Tests.{le-ltb}
 use lib.Bits.{bitAnd, and-mask, and-shr, and-mod}
-use lib.Dec.{lit≤}
-use lib.ListN.{length, getD, take, drop, replicate, length-take, length-drop}
+use lib.ListN.{length, getD, take, drop, replicate, length-take}
 use lib.Pow.{pow-pos}
-use lib.Seq.{getD-drop, getD-take}
+use lib.Seq.{getD-drop}
 use Rattle.wire.specs.Bits.{bits, flag}
 use Rattle.wire.specs.Numbers.{part, number, numberAt}
 use Rattle.frame.specs.Layout.{ethernetOf, avtpOf, streamOf, headerOf, cipOf, fieldsOf}
@@ -18,7 +17,7 @@ use Rattle.frame.specs.declared.layout.Fields.{Fields}
 use Rattle.frame.specs.Refusals.{firstOf}
 use Rattle.frame.specs.Checks.{lengthChecks, streamChecks, headerChecks, readChecks, frameChecks, refusal}
 use Rattle.frame.specs.Reading.{reading, payloadOfNumber, payloadOf}
-use Rattle.frame.specs.Ignored.{regarded, through, Whole, Alike, Bytes, IgnoredBits}
+use Rattle.frame.specs.Ignored.{regarded, through, Alike, Bytes, IgnoredBits}
 
 -- ---- masks
 

@@ -1,11 +1,10 @@
 -- Listing a capture in any chunks is listing it whole. Assumes nothing.
-use Prim.Native.Nat.{ℕ, zero, suc, _+_, _-_, _≤_, _<_}
+use Prim.Native.Nat.{ℕ, zero, suc, _+_, _-_, _≤_}
 use mathlib.Core.Path.{_≡_, refl, sym, ap, _∙_, subst}
 use mathlib.Core.Bool.{Bool, true, false, cond}
-use mathlib.Core.List.{List, [], _∷_, _++_, append-assoc}
+use mathlib.Core.List.{List, [], _++_, append-assoc}
 use native.Mathlib.Omega.{arith}
 use borrow.Author.Tests.{eq-eqb, ne-eqb}
-use lib.Dec.{eqb}
 use lib.ListN.{length, drop, length-append, length-drop}
 use lib.Seq.{drop-append-le, drop-drop}
 use Rattle.capture.specs.Records.{Front, end, ended, skipped, arrival, admission, removal, entryOf}
@@ -14,7 +13,7 @@ use Rattle.capture.specs.Parts.{Whole}
 use Rattle.capture.proofs.Ends.{end-empty, ended-cut}
 use Rattle.capture.proofs.Fronts.{sized}
 use Rattle.capture.proofs.Parts.{read-in-parts}
-use Rattle.table.specs.Table.{Table, receive}
+use Rattle.table.specs.Table.{Table}
 use borrow.Author.Needs.{zero≤}
 use Rattle.listing.specs.Lines.{Line, refused, endLine, lineText}
 use Rattle.listing.specs.Writing.{roomy}

@@ -9,7 +9,7 @@ use Rattle.table.specs.Table.{Table}
 use Rattle.listing.specs.Lines.{endLine, refused, lineText}
 use Rattle.listing.specs.Writing.{roomy}
 use Rattle.listing.specs.Listing.{next, listedFrom}
-use Rattle.listing.specs.Chunks.{Run, chunked, usedOf}
+use Rattle.listing.specs.Chunks.{chunked, usedOf}
 
 -- the text of all the bytes that remain, after n records and with the table t, to the end of the listing
 abbrev pub onward : List ℕ → Table → ℕ → List ℕ

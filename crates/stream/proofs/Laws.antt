@@ -7,7 +7,7 @@ use mathlib.Core.List.{List}
 use borrow.Author.Tests.{eq-eqb}
 use Rattle.frame.specs.Layout.{fieldsOf}
 use Rattle.frame.specs.Checks.{refusal}
-use Rattle.frame.specs.Reading.{payloadOf, dataOf, blocksOf}
+use Rattle.frame.specs.Reading.{payloadOf, blocksOf}
 use Rattle.frame.proofs.Answers.{data-payload}
 use Rattle.stream.specs.declared.Record.{Record}
 use Rattle.stream.specs.Records.{noCounts, admitted, flagsOf, bump, countsAfter, recordAfter}

@@ -4,7 +4,7 @@ use mathlib.Core.Path.{_≡_}
 use mathlib.Core.Bool.{Bool, false}
 use mathlib.Core.List.{List, [], _∷_, _++_}
 use lib.IntN.{ℤ, pos, negℤ}
-use lib.ListN.{length, replicate, take}
+use lib.ListN.{replicate, take}
 use Rattle.frame.specs.Checks.{refusal}
 use Rattle.frame.specs.Layout.{fieldsOf}
 use Rattle.frame.specs.Reading.{payloadOf, blocksOf}

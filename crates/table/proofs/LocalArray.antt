@@ -39,7 +39,7 @@ Ref T l δ zs = record { ptr = (l, 0); name = δ; now = zs }
 
 module _ {M : Type 1} (𝓤 : URA M) (H : Heap 𝓤) (A : Atoms 𝓤) (W : Given 𝓤 H A) (T : RattleType) (n l : ℕ) where
   -- the cell of an array that is owned is lent, for any lifetime
-  lends-array : Single (T .mir) → (κ : Lft) (ys : List (T .Denot)) (v : Val) → Room T (length ys)
+  pub lends-array : Single (T .mir) → (κ : Lft) (ys : List (T .Denot)) (v : Val) → Room T (length ys)
       → ent 𝓤 (sep 𝓤 (sem 𝓤 H A (cellAt fullShare (Array T n .mir) (v ∷ []) l 0)) (sem 𝓤 H A (Array T n .own ys (v ∷ []))))
       (H .⇛ (ex 𝓤 (λ (δ : GName). sep 𝓤 (sem 𝓤 H A (MutSlice (named 0) κ T .own (Ref T l δ ys) (sliceVal (l, 0) (length ys) ∷ []))) (A .lent κ (Held T (length ys) l 0 δ)))))
   unfolding partOf
@@ -50,7 +50,7 @@ module _ {M : Type 1} (𝓤 : URA M) (H : Heap 𝓤) (A : Atoms 𝓤) (W : Given
       use1 W (‵ (cells (mem T) ys l 0)) (whole-in 𝓤 H A W T ys l 0) $ by ! (lends-slice 𝓤 H A W T (named 0) κ ys l 0 room)
 
   -- and comes back
-  array-back : (κ : Lft) (δ : GName) (zs : List (T .Denot)) → ent 𝓤 (sep 𝓤 (A .dead κ) (sep 𝓤 (A .lent κ (Held T n l 0 δ)) (sem 𝓤 H A (finally T δ zs)))) (H .⇛ (sem 𝓤 H A (partAt (Array T n) fullShare zs l 0)))
+  pub array-back : (κ : Lft) (δ : GName) (zs : List (T .Denot)) → ent 𝓤 (sep 𝓤 (A .dead κ) (sep 𝓤 (A .lent κ (Held T n l 0 δ)) (sem 𝓤 H A (finally T δ zs)))) (H .⇛ (sem 𝓤 H A (partAt (Array T n) fullShare zs l 0)))
   array-back κ δ zs =
       qed W (‵ (fdead κ) ∷ ‵ (flent κ (Held T n l 0 δ)) ∷ ‵ (finally T δ zs) ∷ []) ∵ updating ! $ use3 W (later (‵ (Arr (mem T) n .lies zs l 0))) (slice-back 𝓤 H A W T κ δ zs n l 0) $ await ! tt $ at-once ! $
       fsplit ! $ move ! (1 ∷ []) $ use1 W (‵ (row T fullShare zs l 0)) (whole-out 𝓤 H A W T zs l 0) $ move ! (1 ∷ 0 ∷ []) $ fjoin ! $ by ! (array-whole 𝓤 H A W T fullShare n zs l 0)

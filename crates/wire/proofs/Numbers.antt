@@ -1,7 +1,7 @@
 -- Numbers as bytes: one undoes the other, and a number of m + n bytes is put together from one of m and one of n, at every width.
 -- Assumes nothing.
 use Prim.Native.Nat.{ℕ, zero, suc, _+_, _*_, _%_, _^_, _<_, _≤_}
-use mathlib.Core.Path.{_≡_, refl, sym, ap, _∙_}
+use mathlib.Core.Path.{_≡_, refl, sym, _∙_}
 use mathlib.Core.Bool.{Bool, true, false, not}
 use mathlib.Core.List.{List, [], _∷_, _++_, reverse, reverse-append}
 use native.Mathlib.Nat.{lt-of-lt-of-le, add-assoc, add-mul, mul-assoc}
@@ -12,8 +12,8 @@ use lib.Dec.{leb}
 use lib.ListN.{length, getD, take, drop, length-append, length-drop, length-replicate, length-reverse}
 use lib.Pow.{pow-add, pow-mono, shl-lt}
 use lib.Seq.{length-take-le, take-add, drop-drop, drop-cons}
-use Rattle.wire.specs.Bits.{width, pack, unpack, Fit}
-use Rattle.wire.specs.Numbers.{octets, number, bytes, part, numberAt, numberOr0, littleEndianAt, littleEndianOr0}
+use Rattle.wire.specs.Bits.{width, Fit}
+use Rattle.wire.specs.Numbers.{octets, number, bytes, numberAt, numberOr0, littleEndianAt, littleEndianOr0}
 use Rattle.wire.proofs.Bits.{joined, length-unpack, pack-lt, unpack-pack, pack-unpack}
 
 width-octets : (k : ℕ) → width (octets k) ≡ 8 * k

@@ -1,12 +1,10 @@
 use Rattle.frame.specs.Refusals.{verdictNumber}
 use Prim.Native.Nat.{_+_, _≤_}
-use mathlib.Core.Path.{_≡_, refl, sym, ap, _∙_}
+use mathlib.Core.Path.{sym, ap, _∙_}
 use native.Mathlib.Omega.{arith}
 use lib.ListN.{length}
 use denote.Ref.{now}
 use borrow.Author.Needs.{needs}
-use Rattle.frame.specs.Layout.{fieldsOf}
-use Rattle.frame.specs.Checks.{refusal}
 use Rattle.frame.proofs.Groups.{long-enough, header-room}
 use Rattle.frame.proofs.Answers.{length-refuses, header-refuses, block-refuses, all-accept}
 use Rattle.frame.proofs.read.Statement.{statement}

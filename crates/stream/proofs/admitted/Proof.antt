@@ -1,4 +1,3 @@
-use mathlib.Core.Path.{refl}
 use borrow.Author.Needs.{needs}
 use Rattle.stream.specs.Records.{unused, admitted}
 use Rattle.stream.proofs.admitted.Statement.{statement}

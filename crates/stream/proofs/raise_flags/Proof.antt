@@ -1,4 +1,3 @@
-use mathlib.Core.Path.{refl, ap, _∙_}
 use borrow.Author.Needs.{needs}
 use Rattle.stream.specs.Records.{flagsOf}
 use Rattle.stream.proofs.raise_flags.Statement.{statement}

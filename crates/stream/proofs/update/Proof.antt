@@ -1,5 +1,5 @@
 use borrow.Author.Needs.{needs}
-use Rattle.stream.specs.Records.{nextDbc, recordAfter}
+use Rattle.stream.specs.Records.{recordAfter}
 use Rattle.stream.proofs.update.Statement.{statement}
 use Rattle.stream.proofs.update.Tie as tie
 

@@ -1,4 +1,3 @@
-use mathlib.Core.Path.{refl}
 use lib.Dec.{lit≤}
 use denote.Ref.{now}
 use borrow.Author.Needs.{needs}

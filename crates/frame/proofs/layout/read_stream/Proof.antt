@@ -1,4 +1,3 @@
-use mathlib.Core.Path.{refl}
 use Prim.Native.Nat.{_/_}
 use mir.Facts.{fits-mask}
 use lib.Dec.{lit≤}
