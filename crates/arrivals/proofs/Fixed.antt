@@ -16,7 +16,7 @@ use Rattle.arrivals.proofs.Places.{held, stream-place, place-stream}
 use Rattle.arrivals.proofs.Claim.{of-stream}
 
 -- lists with the same element at every place
-pub same-places : {A : Type 0} (l m : List A) → ((i : ℕ) → getElem? l i ≡ getElem? m i) → l ≡ m
+same-places : {A : Type 0} (l m : List A) → ((i : ℕ) → getElem? l i ≡ getElem? m i) → l ≡ m
 same-places [] [] h = refl
 same-places [] (y ∷ m) h = let e = h 0 in let z : _≡_ {A = ℕ} 0 1 = cc in absurd (omega arith)
 same-places (x ∷ l) [] h = let e = h 0 in let z : _≡_ {A = ℕ} 0 1 = cc in absurd (omega arith)

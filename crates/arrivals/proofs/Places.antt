@@ -48,7 +48,7 @@ and-both false c e = absurd (false≢true e)
 pub held : (k : ℕ) (r : Record) → r .«in_use» ≡ true → r .id ≡ k → holds k r ≡ true
 held k r u e = rw u (eq-eqb (r .id) k e)
 
-pub held-by : (k : ℕ) (r : Record) → holds k r ≡ true → (r .«in_use» ≡ true) × (r .id ≡ k)
+held-by : (k : ℕ) (r : Record) → holds k r ≡ true → (r .«in_use» ≡ true) × (r .id ≡ k)
 held-by k r h = let p = and-both (r .«in_use») (eqb (r .id) k) h in (p .0, eqb-true (r .id) k (p .1))
 
 -- ---- the record of a stream is the one at the lowest place that holds its id
@@ -107,7 +107,7 @@ pub data Verdict : Type 0 where
   refused : ℕ → Verdict
   accepted : ℕ → Verdict
 
-abbrev pub byNumber : ℕ → ℕ → Verdict
+abbrev byNumber : ℕ → ℕ → Verdict
 byNumber zero i = accepted i
 byNumber (suc n) i = refused (suc n)
 

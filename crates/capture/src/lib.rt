@@ -24,7 +24,16 @@ pub enum Entry {
 fn wrong_length(length: u16, kind: u16) -> bool
     ensures { λ r. ⌜ r ≡ wrongLength length kind ⌝ }
 {
-    (length < 2) | (kind == 1) & (length < 10) | ((kind == 2) | (kind == 3)) & (length != 10)
+    if length < 2 {
+        return true;
+    }
+    if kind == 1 {
+        return length < 10;
+    }
+    if (kind == 2) | (kind == 3) {
+        return length != 10;
+    }
+    false
 }
 
 fn unknown_kind(kind: u16) -> bool

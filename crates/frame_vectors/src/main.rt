@@ -9,7 +9,6 @@ use frame::layout::Fields;
 use frame::layout::Stream;
 use libc::STDOUT_FILENO;
 ghost use Prim.Native.Nat.{_≤_, _<_};
-ghost use mathlib.Core.Path.{_≡_};
 ghost use lib.ListN.{length};
 
 fn text(bytes: &[u8]) {

@@ -2,7 +2,7 @@
 use Prim.Native.Nat.{ℕ, zero, suc, _+_, _*_, _/_, _%_, _^_, _≤_, _<_}
 use mathlib.Core.Path.{_≡_, refl, ap}
 use mathlib.Core.Bool.{Bool, true, false}
-use mathlib.Core.List.{List, [], _∷_, _++_}
+use mathlib.Core.List.{List, [], _∷_, _++_, append-assoc}
 use native.Mathlib.Nat.{pow-suc}
 use native.Mathlib.Omega.{arith}
 use borrow.Author.Tests.{lt-ltb, le-ltb, ltb-true, ltb-false}
@@ -24,12 +24,12 @@ pub decimal-small : (n : ℕ) → n < 10 → decimal n ≡ (48 + n) ∷ []
 unfolding decimal digits
 decimal-small n h = rw (lt-ltb n 10 h)
 
-pub decimal-large : (n : ℕ) → 10 ≤ n → decimal n ≡ decimal (n / 10) ++ ((48 + n % 10) ∷ [])
+decimal-large : (n : ℕ) → 10 ≤ n → decimal n ≡ decimal (n / 10) ++ ((48 + n % 10) ∷ [])
 unfolding decimal digits
 decimal-large n h =
     rw (le-ltb n 10 h) (ap (λ (l : List ℕ). l ++ ((48 + n % 10) ∷ [])) (enough n (suc (n / 10)) (n / 10) (ltb (n / 10) 10) refl (omega arith) (omega arith)))
 
-pub decimal-large-length : (n : ℕ) → 10 ≤ n → length (decimal n) ≡ length (decimal (n / 10)) + 1
+decimal-large-length : (n : ℕ) → 10 ≤ n → length (decimal n) ≡ length (decimal (n / 10)) + 1
 decimal-large-length n h = rw (decimal-large n h, length-append (decimal (n / 10)) ((48 + n % 10) ∷ []))
 
 one-more : (k n : ℕ) (small : Bool) → ltb n 10 ≡ small → length (decimal (n / 10)) ≤ k → length (decimal n) ≤ suc k
@@ -46,3 +46,29 @@ below-power (suc k) n h =
 -- one of 64 bits has at most 20
 pub decimal-length : (n : ℕ) → n < 2 ^ 64 → length (decimal n) ≤ 20
 decimal-length n h = below-power 19 n (omega arith)
+
+-- ---- Two digits at a time
+
+pub decimal-two : (n : ℕ) → 10 ≤ n → n < 100 → decimal n ≡ (48 + n / 10) ∷ (48 + n % 10) ∷ []
+decimal-two n l h = rw (decimal-large n l, decimal-small (n / 10) (omega arith))
+
+pub decimal-pair : (n : ℕ) → 100 ≤ n → decimal n ≡ decimal (n / 100) ++ ((48 + n % 100 / 10) ∷ (48 + n % 100 % 10) ∷ [])
+decimal-pair n h =
+    let e : n / 10 / 10 ≡ n / 100 = omega arith in
+    let f : n / 10 % 10 ≡ n % 100 / 10 = omega arith in
+    let g : n % 10 ≡ n % 100 % 10 = omega arith in
+    rw (decimal-large n (omega arith), decimal-large (n / 10) (omega arith), e, f, g) (append-assoc (decimal (n / 100)) ((48 + n % 100 / 10) ∷ []) ((48 + n % 100 % 10) ∷ []))
+
+pub small-length : (n : ℕ) → n < 10 → length (decimal n) ≡ 1
+small-length n h = ap length (decimal-small n h)
+
+pub two-length : (n : ℕ) → 10 ≤ n → n < 100 → length (decimal n) ≡ 2
+two-length n l h = ap length (decimal-two n l h)
+
+pub pair-length : (n : ℕ) → 100 ≤ n → length (decimal n) ≡ length (decimal (n / 100)) + 2
+pair-length n h = rw (decimal-pair n h) (length-append (decimal (n / 100)) _)
+
+pub four-length : (n : ℕ) → 10000 ≤ n → length (decimal n) ≡ length (decimal (n / 10000)) + 4
+four-length n h =
+    let e : n / 100 / 100 ≡ n / 10000 = omega arith in
+    rw (← e) (omega (arith, pair-length n (omega arith), pair-length (n / 100) (omega arith)))

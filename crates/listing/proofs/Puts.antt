@@ -8,7 +8,7 @@ use native.Mathlib.Numerals.{add-one}
 use native.Mathlib.Omega.{arith}
 use borrow.Author.Tests.{leb-true, not-true, not-false}
 use lib.ListN.{length, take, getD, set, length-append}
-use lib.Seq.{sets, take-suc, length-take-le, length-sets}
+use lib.Seq.{sets, take-suc, set-comm, length-take-le, length-sets}
 use Rattle.listing.specs.declared.Written.the-variants.{UpTo, NoRoom}
 use Rattle.listing.specs.Writing.{Put, lineRoom, roomy, writing, told}
 
@@ -22,6 +22,19 @@ pub sets-more : (d : List ℕ) (i : ℕ) (s : List ℕ) (j : ℕ) → j < length
 sets-more d i s j h =
     let l : length (take j s) ≡ j = length-take-le j s (omega arith) in
     sym (rw (add-one, take-suc s j 0, sets-append, l))
+
+-- a byte and a text at later places may change places
+past : (t d : List ℕ) (i j a : ℕ) → i < j → set (sets d j t) i a ≡ sets (set d i a) j t
+past [] d i j a h = refl
+past (b ∷ t) d i j a h = past t (set d j b) i (suc j) a (omega arith) ∙ ap (λ (x : List ℕ). sets x (suc j) t) (set-comm d j i b a (λ e. absurd (omega arith)))
+
+apart : (s t d : List ℕ) (i j : ℕ) → i + length s ≤ j → sets (sets d j t) i s ≡ sets (sets d i s) j t
+apart [] t d i j h = refl
+apart (a ∷ s) t d i j h = ap (λ (x : List ℕ). sets x (suc i) s) (past t d i j a (omega arith)) ∙ apart s t (set d i a) (suc i) j (omega arith)
+
+-- a text of which the end is put first
+pub end-first : (s t d : List ℕ) (i : ℕ) → sets (sets d (i + length s) t) i s ≡ sets d i (s ++ t)
+end-first s t d i = apart s t d i (i + length s) (omega arith) ∙ sym (sets-append s t d i)
 
 -- one byte is a text
 pub one : (d : List ℕ) (at a : ℕ) → Put d at (a ∷ []) (set d at a) (at + 1)

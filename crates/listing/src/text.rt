@@ -1,9 +1,10 @@
 // Text put into a buffer at a place. Each call answers the place after what it put.
 use presentation::Kind;
 ghost use mathlib.Core.Path.{_≡_};
-ghost use Prim.Native.Nat.{_+_, _≤_, _<_};
-ghost use mathlib.Core.List.{_++_};
+ghost use Prim.Native.Nat.{_+_, _/_, _%_, _≤_, _<_};
+ghost use mathlib.Core.List.{[], _∷_, _++_};
 ghost use lib.ListN.{length};
+ghost use lib.Seq.{sets};
 ghost use Rattle.listing.specs.Text.{decimal, signed};
 ghost use Rattle.listing.specs.Lines.{flagWord, kindWord};
 ghost use Rattle.listing.specs.Writing.{Put};
@@ -27,18 +28,56 @@ fn digit(n: u64) -> u8
     48 + n as u8
 }
 
-// The higher digits first, then the last one.
+// Both digits of a number below a hundred, also where the first is a zero.
+fn put_pair(out: &mut [u8], at: usize, n: u64)
+    requires { ⌜ (at + 2 ≤ length (now out)) × (n < 100) ⌝ }
+    ensures { λ _. ⌜ now (out .exit) ≡ sets (now (out .entry)) at ((48 + n / 10) ∷ (48 + n % 10) ∷ []) ⌝ }
+{
+    out[at] = digit(n / 10);
+    out[at + 1] = digit(n % 10);
+}
+
+// How many digits a number has, four at a time.
+fn count_digits(n: u64) -> usize
+    ensures { λ r. ⌜ r ≡ length (decimal n) ⌝ }
+{
+    let mut high = n;
+    let mut count = 0;
+    while high >= 10_000 {
+        high /= 10_000;
+        count += 4;
+    }
+    if high < 10 {
+        return count + 1;
+    }
+    if high < 100 {
+        return count + 2;
+    }
+    if high < 1_000 {
+        return count + 3;
+    }
+    count + 4
+}
+
+// The last digits first, two at a time.
 fn put_decimal(out: &mut [u8], at: usize, n: u64) -> usize
     requires { ⌜ at + length (decimal n) ≤ length (now out) ⌝ }
     ensures { λ r. ⌜ Put (now (out .entry)) at (decimal n) (now (out .exit)) r ⌝ }
 {
-    if n < 10 {
-        out[at] = digit(n);
-        return at + 1;
+    let end = at + count_digits(n);
+    let mut i = end;
+    let mut high = n;
+    while high >= 100 {
+        i -= 2;
+        put_pair(out, i, high % 100);
+        high /= 100;
     }
-    let end = put_decimal(out, at, n / 10);
-    out[end] = digit(n % 10);
-    end + 1
+    if high < 10 {
+        out[at] = digit(high);
+    } else {
+        put_pair(out, at, high);
+    }
+    end
 }
 
 // A number of 64 bits, which has at most 20 digits.

@@ -24,7 +24,7 @@ below-zero p r m h =
     let e : p + m ≡ suc (p + m - 1) = omega arith in
     rw (e, sub-lt (m - 1 - r) (suc (p + m - 1)) (omega arith)) (ap negsuc (omega arith))
 
-pub is-remainder : (z : ℤ) (m : ℕ) → 0 < m → IsRemainder z m (modulo z m)
+is-remainder : (z : ℤ) (m : ℕ) → 0 < m → IsRemainder z m (modulo z m)
 is-remainder (pos n) m h = record { times = pos (n / m); whole = ap pos (sym (div-add-mod' n m)); below = mod-lt n h }
 is-remainder (negsuc n) m h =
     record {

@@ -29,7 +29,7 @@ timed-offset d (pos n) =
     (λ h. rw (lt-ltb largest n h))
     (λ h. rw (le-ltb largest n h))
 
-pub timing-offset : (L T : ℕ) → (timing L T) .offset ≡ offset L T
+timing-offset : (L T : ℕ) → (timing L T) .offset ≡ offset L T
 unfolding timing
 timing-offset L T = timed-offset (offset L T) (pos L +ℤ offset L T)
 

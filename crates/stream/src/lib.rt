@@ -5,7 +5,6 @@ use frame::layout::Fields;
 use frame::refusal::Refusal;
 use presentation::Timing;
 ghost use mathlib.Core.Path.{_≡_};
-ghost use mathlib.Core.Bool.{_&&_};
 ghost use Rattle.stream.specs.Records.{unused, admitted, formatOf, formatChange, sequenceBreak, flagsOf, nextDbc, bump, countsAfter, recordAfter};
 ghost use Rattle.stream.specs.Step.{stepped, served};
 ghost use Rattle.stream.specs.Examples.{MarkedExamples};

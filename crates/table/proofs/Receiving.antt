@@ -30,7 +30,7 @@ use Rattle.table.specs.Table.{Table, any, place, holds, at, find, number
 use Rattle.table.proofs.Searched.{found-at, found-none}
 
 -- ---- the number, from the reader's and the search's
-abbrev pub tooLong : ℕ → Check
+abbrev tooLong : ℕ → Check
 tooLong n = ltb 64 n answers 20
 
 -- before the table is searched

@@ -101,7 +101,7 @@ below true k n rest e h = omega arith
 below false k n rest e h = let less : k < n = h e in omega (arith, less)
 
 -- a place that was found is in the table
-pub place-within : (p : Record → Bool) (t : Table) → any p t ≡ true → place p t < length t
+place-within : (p : Record → Bool) (t : Table) → any p t ≡ true → place p t < length t
 unfolding any place
 place-within p [] e = absurd (no-true e)
   where

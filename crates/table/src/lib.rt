@@ -53,7 +53,7 @@ fn is_wanted(r: Record, wanted: Wanted) -> bool
     ensures { λ b. ⌜ b ≡ wants wanted r ⌝ }
 {
     match wanted {
-        Wanted::Holding(id) => { if r.in_use { r.id == id } else { false } }
+        Wanted::Holding(id) => { if r.id == id { r.in_use } else { false } }
         Wanted::Unused => !r.in_use,
     }
 }

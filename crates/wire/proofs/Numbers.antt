@@ -20,7 +20,7 @@ width-octets : (k : ℕ) → width (octets k) ≡ 8 * k
 width-octets zero = refl
 width-octets (suc k) = rw (width-octets k) (omega arith)
 
-pub length-bytes : (k n : ℕ) → length (bytes k n) ≡ k
+length-bytes : (k n : ℕ) → length (bytes k n) ≡ k
 length-bytes k n = length-unpack (octets k) n ∙ length-replicate k 8
 
 -- a number that k bytes hold, out of its bytes

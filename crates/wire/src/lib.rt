@@ -1,7 +1,6 @@
 // Numbers on the wire, most significant byte first. Each reader answers 0 where the slice ends before the number does.
 ghost use mathlib.Core.Path.{_≡_};
 ghost use Prim.Native.Nat.{_+_};
-ghost use lib.ListN.{length};
 ghost use lib.Dec.{leb};
 ghost use Rattle.wire.specs.Numbers.{numberOr0, littleEndianOr0};
 ghost use Rattle.wire.specs.RoundTrips.{RoundTrips};
@@ -61,7 +60,9 @@ pub fn be64(s: &[u8], at: usize) -> u64
     if !holds(s.len(), at, 8) {
         return 0;
     }
-    ((be32(s, at) as u64) << 32) | (be32(s, at + 4) as u64)
+    // The low half first: in this order the compiler makes one load of both.
+    let low = be32(s, at + 4) as u64;
+    ((be32(s, at) as u64) << 32) | low
 }
 
 // A capture's own numbers have the least significant byte first.

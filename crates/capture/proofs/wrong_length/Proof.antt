@@ -1,11 +1,25 @@
-use mathlib.Core.Path.{refl}
+use mathlib.Core.Path.{sym}
+use mathlib.Core.Bool.{or-false}
+use borrow.Author.Tests.{lt-ltb, le-ltb, ne-eqb}
 use Rattle.capture.specs.Records.{wrongLength}
 use Rattle.capture.proofs.wrong_length.Statement.{statement}
 use Rattle.capture.proofs.wrong_length.Tie as tie
 
 returns : tie.Need-returns
 unfolding wrongLength
-returns c = refl
+returns c = rw (lt-ltb _ _ (c .if1 .taken))
+
+returns-2 : tie.Need-returns-2
+unfolding wrongLength
+returns-2 c = rw (le-ltb _ _ (c .before .if1 .left), c .if2 .taken) (sym (or-false _))
+
+returns-3 : tie.Need-returns-3
+unfolding wrongLength
+returns-3 c = rw (le-ltb _ _ (c .before .before .if1 .left), ne-eqb _ _ (c .before .if2 .left), c .if3 .taken)
+
+returns-4 : tie.Need-returns-4
+unfolding wrongLength
+returns-4 c = rw (le-ltb _ _ (c .before .before .if1 .left), ne-eqb _ _ (c .before .if2 .left), c .if3 .left)
 
 pub wrong-length-spec : {M : Type 1} → statement M
-wrong-length-spec = tie.close (tie.spec returns)
+wrong-length-spec = tie.close (tie.spec returns returns-2 returns-3 returns-4)

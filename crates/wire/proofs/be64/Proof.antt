@@ -6,43 +6,28 @@ use borrow.Author.Needs.{needs}
 use Rattle.wire.proofs.be64.Statement.{statement}
 use Rattle.wire.proofs.be64.Tie as tie
 
-holds-requires : tie.Need-holds-requires
-holds-requires c κs = search needs
-
 returns : tie.Need-returns
 returns c = let a = c .before .before .before .args in missing (a .at) 8 (now (a .s)) (c .before .holds .ensures) (c .if1 .taken)
 
-be32-requires : tie.Need-be32-requires
-be32-requires c κs = search needs
-
-cast-result : tie.Need-cast-result
-cast-result c = search needs
-
 add-be32 : tie.Need-add-be32
-add-be32 c = let a = c .before .before .before .before .args in omega (arith, present (a .at) 8 (now (a .s)) (c .before .before .holds .ensures) (c .before .if1 .left))
-
-be32-requires-2 : tie.Need-be32-requires-2
-be32-requires-2 c κs = search needs
-
-cast-result-2 : tie.Need-cast-result-2
-cast-result-2 c = search needs
+add-be32 c = let a = c .before .before .before .args in omega (arith, present (a .at) 8 (now (a .s)) (c .before .holds .ensures) (c .if1 .left))
 
 returns-2 : tie.Need-returns-2
 returns-2 c =
     let x = c .before .before in
     let a = x .before .before .before .args in
     let h = present (a .at) 8 (now (a .s)) (x .before .holds .ensures) (x .if1 .left) in
-    beside (a .at) 4 4 64 (now (a .s)) h (lit≤ tt) (c .before .be32 .ensures) (c .be322 .ensures) (omega arith) (omega arith)
+    beside (a .at) 4 4 64 (now (a .s)) h (lit≤ tt) (c .be322 .ensures) (c .before .be32 .ensures) (omega arith) (omega arith)
 
 pub be64-spec : {M : Type 1} → statement M
 be64-spec =
     tie.close
     (tie.spec
-    holds-requires
+    (λ c κs. search needs)
     returns
-    be32-requires
-    cast-result
     add-be32
-    be32-requires-2
-    cast-result-2
+    (λ c κs. search needs)
+    (λ c. search needs)
+    (λ c κs. search needs)
+    (λ c. search needs)
     returns-2)
