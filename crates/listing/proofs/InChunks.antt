@@ -2,7 +2,7 @@
 use Prim.Native.Nat.{ℕ, zero, suc, _+_, _-_, _≤_}
 use mathlib.Core.Path.{_≡_, refl, sym, ap, _∙_, subst}
 use mathlib.Core.Bool.{Bool, true, false, cond}
-use mathlib.Core.List.{List, [], _++_, append-assoc}
+use mathlib.Core.List.{List, [], _∷_, _++_, append-assoc, append-nil}
 use native.Mathlib.Omega.{arith}
 use borrow.Author.Tests.{eq-eqb, ne-eqb}
 use lib.ListN.{length, drop, length-append, length-drop}
@@ -15,11 +15,11 @@ use Rattle.capture.proofs.Fronts.{sized}
 use Rattle.capture.proofs.Parts.{read-in-parts}
 use Rattle.table.specs.Table.{Table}
 use borrow.Author.Needs.{zero≤}
-use Rattle.listing.specs.Lines.{Line, refused, endLine, lineText}
+use Rattle.listing.specs.Lines.{Line, refused, startLine, endLine, lineText}
 use Rattle.listing.specs.Writing.{roomy}
-use Rattle.listing.specs.Listing.{Step, done, last, more, stepBy, stepOf, next, textFrom, listedFrom}
+use Rattle.listing.specs.Listing.{Step, done, last, more, stepBy, stepOf, next, textFrom, listedFrom, listing}
 use Rattle.listing.specs.Chunks.{Run, stopped, turnBy, turn, turns, chunked, usedOf}
-use Rattle.listing.specs.InChunks.{onward, ending, InChunks}
+use Rattle.listing.specs.InChunks.{onward, ending, Chunk, joined, unread, withChunk, withChunks, InChunks}
 use Rattle.listing.proofs.Bound.{every-record}
 
 -- ---- one record
@@ -189,11 +189,36 @@ used-some left t n room line rest u b e z =
     let w : usedOf left (turns (length left) room r) ≡ 0 = rw (b, e) at z in
     omega (arith, p .some, p .within)
 
+-- ---- a whole capture
+
+more-comes : (chunk later : List ℕ) (t : Table) (n room : ℕ) → onward (chunk ++ later) t n ≡ whole later (chunked chunk t n room)
+unfolding chunked
+more-comes chunk later t n room = sym (turns-whole later room (suc (length chunk)) (record { rest = chunk; text = []; records = n; table = t; going = true }))
+
+all-chunks : (cs : List Chunk) (r : Run) → whole (joined cs) r ≡ whole [] (withChunks r cs)
+unfolding joined withChunk withChunks
+all-chunks [] r = refl
+all-chunks (c ∷ cs) r =
+    ap (λ (x : List ℕ). r .text ++ onward x (r .table) (r .records)) (sym (append-assoc (r .rest) (c .bytes) (joined cs)))
+    ∙ ap (λ (x : List ℕ). r .text ++ x) (more-comes (r .rest ++ c .bytes) (joined cs) (r .table) (r .records) (c .room))
+    ∙ sym (append-assoc (r .text) _ _)
+    ∙ all-chunks cs (withChunk r c)
+
+ends : (left : List ℕ) (t : Table) (n room : ℕ) → roomy room 0 ≡ true → usedOf left (chunked left t n room) ≡ 0 → onward left t n ≡ ending left n
+unfolding stepOf
+ends left t n room b z = nothing-whole left t n (entryOf left) refl (stepBy (entryOf left) left t) refl (λ line rest u e. used-some left t n room line rest u b e z)
+
 pub in-chunks : InChunks
-unfolding chunked stepOf
+unfolding chunked listing
 in-chunks =
     record {
-      more-to-come = λ chunk later t n room. sym (turns-whole later room (suc (length chunk)) (record { rest = chunk; text = []; records = n; table = t; going = true }));
+      more-to-come = more-comes;
       left-over = λ chunk t n room. end-used chunk _ (turns-end chunk room (suc (length chunk)) (record { rest = chunk; text = []; records = n; table = t; going = true }) (0, zero≤, refl));
-      at-the-end = λ left t n room b z. nothing-whole left t n (entryOf left) refl (stepBy (entryOf left) left t) refl (λ line rest u e. used-some left t n room line rest u b e z);
+      at-the-end = ends;
+      whole-capture = λ cs room b z.
+          let r = withChunks unread cs in
+          ap (λ (x : List ℕ). startLine ++ x)
+          (all-chunks cs unread
+          ∙ ap (λ (x : List ℕ). r .text ++ onward x (r .table) (r .records)) (append-nil (r .rest))
+          ∙ ap (λ (x : List ℕ). r .text ++ x) (ends (r .rest) (r .table) (r .records) room b z));
     }

@@ -2,14 +2,15 @@
 use Prim.Native.Nat.{ℕ}
 use mathlib.Core.Path.{_≡_}
 use mathlib.Core.Bool.{true, cond}
-use mathlib.Core.List.{List, _++_}
+use mathlib.Core.List.{List, [], _∷_, _++_}
 use lib.Dec.{eqb}
-use lib.ListN.{length, drop}
+use lib.ListN.{length, drop, replicate}
+use Rattle.stream.specs.Records.{unused}
 use Rattle.table.specs.Table.{Table}
-use Rattle.listing.specs.Lines.{endLine, refused, lineText}
+use Rattle.listing.specs.Lines.{startLine, endLine, refused, lineText}
 use Rattle.listing.specs.Writing.{roomy}
-use Rattle.listing.specs.Listing.{next, listedFrom}
-use Rattle.listing.specs.Chunks.{chunked, usedOf}
+use Rattle.listing.specs.Listing.{next, listedFrom, listing}
+use Rattle.listing.specs.Chunks.{Run, chunked, usedOf}
 
 -- the text of all the bytes that remain, after n records and with the table t, to the end of the listing
 abbrev pub onward : List ℕ → Table → ℕ → List ℕ
@@ -19,7 +20,39 @@ onward rest t n = listedFrom (length rest) rest t n
 abbrev pub ending : List ℕ → ℕ → List ℕ
 ending left n = cond (eqb (length left) 0) (endLine n) (lineText (next n) (refused 41) ++ endLine (next n))
 
+-- ---- A capture in chunks
+
+-- a chunk, and the bytes of the output that it is listed into
+pub record Chunk : Type 0 where
+  pub bytes : List ℕ
+  pub room : ℕ
+
+-- the capture that they make
+unfoldable pub joined : List Chunk → List ℕ
+joined [] = []
+joined (c ∷ cs) = c .bytes ++ joined cs
+
+-- a capture of which nothing has been read
+abbrev pub unread : Run
+unread = record { rest = []; text = []; records = 0; table = replicate 64 unused; going = true }
+
+-- a chunk behind what is left of those before it, with their table and count, and its text behind theirs
+unfoldable pub withChunk : Run → Chunk → Run
+withChunk r c =
+    let now = chunked (r .rest ++ c .bytes) (r .table) (r .records) (c .room) in
+    record { rest = now .rest; text = r .text ++ now .text; records = now .records; table = now .table; going = now .going }
+
+unfoldable pub withChunks : Run → List Chunk → Run
+withChunks r [] = r
+withChunks r (c ∷ cs) = withChunks (withChunk r c) cs
+
+-- ---- The claim
+
 pub record InChunks : Type 0 where
+  -- the whole capture, in any chunks, empty ones too, and with any room for each: once a call that had room used nothing of what is left
+  pub whole-capture : (cs : List Chunk) (room : ℕ) → roomy room 0 ≡ true
+      → (let r = withChunks unread cs in usedOf (r .rest) (chunked (r .rest) (r .table) (r .records) room) ≡ 0
+      → listing (joined cs) ≡ startLine ++ (r .text ++ ending (r .rest) (r .records)))
   -- a chunk with more to come: its text, and then what is left of it with what comes later, from the table and the count that it left
   pub more-to-come : (chunk later : List ℕ) (t : Table) (n room : ℕ)
       → (let r = chunked chunk t n room in onward (chunk ++ later) t n ≡ r .text ++ onward (r .rest ++ later) (r .table) (r .records))
