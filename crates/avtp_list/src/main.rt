@@ -28,10 +28,10 @@ struct Filled {
 }
 
 // Room for the input: more than the 65,537 bytes of the longest record.
-fn input_room() -> [u8; 1048576]
-    ensures { λ r. ⌜ 1048576 ≡ length r ⌝ }
+fn input_room() -> [u8; 262144]
+    ensures { λ r. ⌜ 262144 ≡ length r ⌝ }
 {
-    [0u8; 1048576]
+    [0u8; 262144]
 }
 
 // Moves the bytes from a place on to the front.

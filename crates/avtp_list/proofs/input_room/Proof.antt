@@ -5,7 +5,7 @@ use Rattle.avtp_list.proofs.input_room.Statement.{statement}
 use Rattle.avtp_list.proofs.input_room.Tie as tie
 
 returns : tie.Need-returns
-returns c = sym (length-replicate {0} {A = ℕ} 1048576 0)
+returns c = sym (length-replicate {0} {A = ℕ} 262144 0)
 
 pub input-room-spec : {M : Type 1} → statement M
 input-room-spec = tie.close (tie.spec returns)
