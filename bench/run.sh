@@ -1,10 +1,10 @@
 #!/usr/bin/env bash
 # Both listing programs on the same captures, in one run: instructions a record (callgrind) and nanoseconds a record (the fastest of
-# several runs), and the ratio of this program to the second one. Needs `rt`, rustc and valgrind.
+# several runs, by default 25), and the ratio of this program to the second one. Needs `rt`, rustc and valgrind.
 set -euo pipefail
 cd "$(dirname "$0")/.."
 
-runs=${1:-5}
+runs=${1:-25}
 work=$(mktemp -d)
 trap 'rm -rf "$work"' EXIT
 
@@ -15,17 +15,24 @@ rustc -O --edition 2021 -o "$work/generate" second/generate.rs
 ours=target/bin/avtp_list
 theirs=$work/second_list
 
-# the fastest of several runs, in nanoseconds
+# the fastest of several runs of each program, in nanoseconds: they run by turns, so that both meet the same noise
 fastest() {
-    local best=0 start end took
+    local capture=$1 best_ours=0 best_theirs=0 took
     for _ in $(seq "$runs"); do
-        start=$(date +%s%N)
-        "$1" "$2" >/dev/null
-        end=$(date +%s%N)
-        took=$((end - start))
-        if [ "$best" -eq 0 ] || [ "$took" -lt "$best" ]; then best=$took; fi
+        took=$(once "$ours" "$capture")
+        if [ "$best_ours" -eq 0 ] || [ "$took" -lt "$best_ours" ]; then best_ours=$took; fi
+        took=$(once "$theirs" "$capture")
+        if [ "$best_theirs" -eq 0 ] || [ "$took" -lt "$best_theirs" ]; then best_theirs=$took; fi
     done
-    echo "$best"
+    echo "$best_ours $best_theirs"
+}
+
+once() {
+    local start end
+    start=$(date +%s%N)
+    "$1" "$2" >/dev/null
+    end=$(date +%s%N)
+    echo $((end - start))
 }
 
 instructions() {
@@ -40,8 +47,7 @@ for capture in "$work"/captures/*; do
     records=$(sed -n 's/^end records=//p' "$work/ours")
     a=$(instructions "$ours" "$capture")
     b=$(instructions "$theirs" "$capture")
-    c=$(fastest "$ours" "$capture")
-    d=$(fastest "$theirs" "$capture")
+    read -r c d <<<"$(fastest "$capture")"
     awk -v name="$(basename "$capture" .cap)" -v n="$records" -v a="$a" -v b="$b" -v c="$c" -v d="$d" \
         'BEGIN { printf "%-12s %9d | %8.1f %8.1f %6.2f | %8.1f %8.1f %6.2f\n", name, n, a / n, b / n, a / b, c / n, d / n, c / d }'
 done
