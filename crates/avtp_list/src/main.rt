@@ -3,8 +3,8 @@ use frame::refusal::Refusal;
 use libc::STDERR_FILENO;
 use libc::STDIN_FILENO;
 use libc::STDOUT_FILENO;
-use listing::Outcome;
-use listing::Written;
+use lines::Outcome;
+use lines::Written;
 use stream::Record;
 ghost use mathlib.Core.Path.{_≡_};
 ghost use Prim.Native.Nat.{_≤_};
@@ -161,18 +161,18 @@ fn write_line(written: Written, out: &[u8]) -> bool {
 }
 
 fn write_start(out: &mut [u8]) -> bool {
-    let line = listing::put_start(out, 0);
+    let line = lines::put_start(out, 0);
     write_line(line, out)
 }
 
 // The bytes that are left at the end, if any, are a record that the capture ends in.
 fn write_cut(out: &mut [u8], records: u64) -> bool {
-    let line = listing::put_record(out, 0, records, Outcome::Refused(Refusal::RecordCut));
+    let line = lines::put_record(out, 0, records, Outcome::Refused(Refusal::RecordCut));
     write_line(line, out)
 }
 
 fn write_end(out: &mut [u8], records: u64) -> bool {
-    let line = listing::put_end(out, 0, records);
+    let line = lines::put_end(out, 0, records);
     write_line(line, out)
 }
 

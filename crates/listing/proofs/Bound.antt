@@ -9,7 +9,7 @@ use Rattle.capture.specs.Records.{Front, end, ended, skipped, arrival, admissio
 use Rattle.capture.specs.Sizes.{Sized}
 use Rattle.capture.proofs.Fronts.{sized}
 use Rattle.table.specs.Table.{Table}
-use Rattle.listing.specs.Lines.{endLine, Line, lineText}
+use Rattle.lines.specs.Lines.{endLine, Line, lineText}
 use Rattle.listing.specs.Listing.{stepBy, stepOf, next, textFrom, listedFrom}
 use Rattle.listing.specs.Bound.{EveryRecord}
 

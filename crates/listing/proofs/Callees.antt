@@ -48,12 +48,12 @@ use Rattle.table.proofs.Lending.{Token, Mine}
 use Rattle.table.proofs.receive as receiving
 use Rattle.table.proofs.admit as admitting
 use Rattle.table.proofs.remove as removing
-use Rattle.listing.specs.declared.Outcome.{Outcome}
-use Rattle.listing.specs.Lines.{admitted, removed, lineOf}
+use Rattle.lines.specs.declared.Outcome.{Outcome}
+use Rattle.lines.specs.Lines.{admitted, removed, lineOf}
 use Rattle.listing.specs.Listing.{changeLine}
-use Rattle.listing.specs.Writing.{roomy}
-use Rattle.listing.proofs.Outcome as O
-use Rattle.listing.proofs.Outcome.Laws as O′
+use Rattle.lines.specs.Writing.{roomy}
+use Rattle.lines.proofs.Outcome as O
+use Rattle.lines.proofs.Outcome.Laws as O′
 use Rattle.listing.proofs.Lent.{kept-said}
 use Rattle.listing.proofs.Obeying.{ReceiptLine}
 use Rattle.listing.proofs.chunk.front_of as front-of

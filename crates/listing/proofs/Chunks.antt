@@ -14,10 +14,10 @@ use Rattle.stream.specs.declared.Receipt.the-variants.{Refused}
 use Rattle.stream.specs.Answers.{refusedWith, told as answered}
 use Rattle.capture.specs.Records.{end, entryOf, frameOf}
 use Rattle.listing.specs.declared.chunk.Progress.{Progress}
-use Rattle.listing.specs.declared.Written.the-variants.{UpTo, NoRoom}
-use Rattle.listing.specs.Lines.{Line, refused}
+use Rattle.lines.specs.declared.Written.the-variants.{UpTo, NoRoom}
+use Rattle.lines.specs.Lines.{Line, refused}
 use Rattle.listing.specs.Listing.{changeLine, frameLine, next}
-use Rattle.listing.specs.Writing.{roomy, Writing, writing, told}
+use Rattle.lines.specs.Writing.{roomy, Writing, writing, told}
 use Rattle.listing.specs.Progress.{halted, passed, putWhole}
 
 -- ---- past the end of a chunk nothing stands, and there is no frame

@@ -15,8 +15,8 @@ use Rattle.capture.proofs.Fronts.{sized}
 use Rattle.capture.proofs.Parts.{read-in-parts}
 use Rattle.table.specs.Table.{Table}
 use borrow.Author.Needs.{zero≤}
-use Rattle.listing.specs.Lines.{Line, refused, startLine, endLine, lineText}
-use Rattle.listing.specs.Writing.{roomy}
+use Rattle.lines.specs.Lines.{Line, refused, startLine, endLine, lineText}
+use Rattle.lines.specs.Writing.{roomy}
 use Rattle.listing.specs.Listing.{Step, done, last, more, stepBy, stepOf, next, textFrom, listedFrom, listing}
 use Rattle.listing.specs.Chunks.{Run, stopped, turnBy, turn, turns, chunked, usedOf}
 use Rattle.listing.specs.InChunks.{onward, ending, Chunk, joined, unread, withChunk, withChunks, InChunks}

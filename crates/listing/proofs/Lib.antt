@@ -1,6 +1,3 @@
-pub mod Decimals
-pub mod Puts
-pub mod Signs
 pub mod Bound
 pub mod InChunks
 pub mod Chunks

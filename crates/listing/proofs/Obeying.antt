@@ -13,8 +13,8 @@ use Rattle.stream.specs.Records.{unused, admitted as new}
 use Rattle.stream.specs.Answers.{Answer, told as answered}
 use Rattle.table.specs.declared.Change.{Change}
 use Rattle.table.specs.Table.{Table, place, holds, isUnused, admitChecks, removeChecks, changed, changeNumber, admit, remove, numberWith, receiveBy, receive}
-use Rattle.listing.specs.declared.Outcome.{Outcome}
-use Rattle.listing.specs.Lines.{Line, admitted, removed, lineOf}
+use Rattle.lines.specs.declared.Outcome.{Outcome}
+use Rattle.lines.specs.Lines.{Line, admitted, removed, lineOf}
 use Rattle.listing.specs.Listing.{changeLine, frameLine, stepBy}
 use Rattle.listing.specs.Chunks.{lineAfter, tableAfter}
 

@@ -35,14 +35,14 @@ use Rattle.capture.proofs.Entry.Laws as I′
 use Rattle.stream.specs.declared.Record.{Record}
 use Rattle.stream.proofs.Record as T
 use Rattle.table.proofs.Lending.{Token, Mine}
-use Rattle.listing.specs.declared.Outcome.{Outcome}
+use Rattle.lines.specs.declared.Outcome.{Outcome}
 use Rattle.listing.specs.declared.chunk.Progress.{Progress}
-use Rattle.listing.specs.Lines.{lineOf, lineText}
+use Rattle.lines.specs.Lines.{lineOf, lineText}
 use Rattle.listing.specs.Listing.{stepBy, next}
 use Rattle.listing.specs.Chunks.{lineAfter, tableAfter}
 use Rattle.listing.specs.Progress.{sizeAhead, putNext}
-use Rattle.listing.proofs.Outcome as O
-use Rattle.listing.proofs.Outcome.Laws as O′
+use Rattle.lines.proofs.Outcome as O
+use Rattle.lines.proofs.Outcome.Laws as O′
 use Rattle.listing.proofs.chunk.Progress as D
 use Rattle.listing.proofs.chunk.Progress.Laws as D′
 use Rattle.listing.proofs.Callees.{machI, machO, Part, PartAlive}

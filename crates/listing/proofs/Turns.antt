@@ -12,12 +12,12 @@ use Rattle.capture.specs.Sizes.{Within, Sized}
 use Rattle.capture.proofs.Fronts.{sized}
 use Rattle.table.specs.Table.{Table, admit, remove, receive}
 use Rattle.listing.specs.declared.chunk.Progress.{Progress}
-use Rattle.listing.specs.Lines.{Line, admitted, removed, refused, lineText}
+use Rattle.lines.specs.Lines.{Line, admitted, removed, refused, lineText}
 use Rattle.listing.specs.Listing.{changeLine, frameLine, stepBy, stepOf, next}
-use Rattle.listing.specs.Writing.{roomy}
+use Rattle.lines.specs.Writing.{roomy}
 use Rattle.listing.specs.Chunks.{Run, stopped, turnBy, turn, turns, chunked, usedOf, lineAfter, tableAfter}
 use Rattle.listing.specs.Progress.{passed, sizeAhead, putWhole, putNext, ChunkListed}
-use Rattle.listing.proofs.Puts.{sets-append}
+use Rattle.lines.proofs.Puts.{sets-append}
 use Rattle.listing.proofs.Obeying.{length-admit, length-remove, length-receive}
 
 module _ (chunk : List ℕ) (t : Table) (n : ℕ) (d : List ℕ) where

@@ -4,8 +4,8 @@ use mathlib.Core.Bool.{Bool, true, false, cond}
 use mathlib.Core.List.{List, [], _++_}
 use lib.ListN.{length}
 use Rattle.table.specs.Table.{Table}
-use Rattle.listing.specs.Lines.{Line, refused, lineText}
-use Rattle.listing.specs.Writing.{roomy}
+use Rattle.lines.specs.Lines.{Line, refused, lineText}
+use Rattle.lines.specs.Writing.{roomy}
 use Rattle.listing.specs.Listing.{Step, done, last, more, stepOf, next}
 
 -- the line of a step, where nothing is left that of a record that is cut, and the table after it

@@ -4,7 +4,7 @@ use mathlib.Core.Path.{_≡_}
 use mathlib.Core.List.{List, [], _++_, reverse}
 use lib.ListN.{length, take}
 use Rattle.wire.specs.Numbers.{bytes}
-use Rattle.listing.specs.Text.{ascii}
+use Rattle.lines.specs.Text.{ascii}
 use Rattle.listing.specs.Listing.{listing}
 
 -- a sound frame of a stream, with an AVTP timestamp and no blocks (destination, source, VLAN tag, Ethertype; the AVTPDU's first four

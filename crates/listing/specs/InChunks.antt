@@ -7,8 +7,8 @@ use lib.Dec.{eqb}
 use lib.ListN.{length, drop, replicate}
 use Rattle.stream.specs.Records.{unused}
 use Rattle.table.specs.Table.{Table}
-use Rattle.listing.specs.Lines.{startLine, endLine, refused, lineText}
-use Rattle.listing.specs.Writing.{roomy}
+use Rattle.lines.specs.Lines.{startLine, endLine, refused, lineText}
+use Rattle.lines.specs.Writing.{roomy}
 use Rattle.listing.specs.Listing.{next, listedFrom, listing}
 use Rattle.listing.specs.Chunks.{Run, chunked, usedOf}
 

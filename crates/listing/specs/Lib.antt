@@ -1,6 +1,3 @@
-pub mod Text
-pub mod Lines
-pub mod Writing
 pub mod Listing
 pub mod Bound
 pub mod Example

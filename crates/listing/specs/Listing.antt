@@ -6,7 +6,7 @@ use Rattle.capture.specs.Records.{Front, end, ended, skipped, arrival, admissio
 use Rattle.stream.specs.Records.{unused}
 use Rattle.stream.specs.Answers.{Answer}
 use Rattle.table.specs.Table.{Table, admit, remove, receive}
-use Rattle.listing.specs.Lines.{startLine, endLine, Line, admitted, removed, refused, frame, lineText}
+use Rattle.lines.specs.Lines.{startLine, endLine, Line, admitted, removed, refused, frame, lineText}
 
 -- ---- One record
 

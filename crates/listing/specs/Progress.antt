@@ -9,7 +9,7 @@ use Rattle.capture.specs.Records.{Front, end, ended, skipped, arrival, admissio
 use Rattle.table.specs.Table.{Table}
 use Rattle.listing.specs.declared.chunk.Progress.{Progress}
 use Rattle.listing.specs.Listing.{next}
-use Rattle.listing.specs.Writing.{roomy}
+use Rattle.lines.specs.Writing.{roomy}
 use Rattle.listing.specs.Chunks.{chunked, usedOf}
 
 abbrev pub halted : Progress → Progress

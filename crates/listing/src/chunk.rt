@@ -1,8 +1,8 @@
 // A chunk of a capture at a time: the whole records at its front, as far as the output has room for their lines.
-use crate::Outcome;
-use crate::Written;
 use capture::Entry;
 use frame::refusal::Refusal;
+use lines::Outcome;
+use lines::Written;
 use stream::Receipt;
 use stream::Record;
 use table::Change;
@@ -14,9 +14,9 @@ ghost use lib.ListN.{length, drop};
 ghost use Rattle.capture.specs.Records.{told, end, entryOf, frameOf};
 ghost use Rattle.stream.specs.Answers.{told as answered};
 ghost use Rattle.table.specs.Table.{changeNumber};
-ghost use Rattle.listing.specs.Lines.{admitted, removed, lineOf, lineText};
+ghost use Rattle.lines.specs.Lines.{admitted, removed, lineOf, lineText};
 ghost use Rattle.listing.specs.Listing.{changeLine, frameLine, stepBy, next};
-ghost use Rattle.listing.specs.Writing.{roomy};
+ghost use Rattle.lines.specs.Writing.{roomy};
 ghost use Rattle.listing.specs.Progress.{halted, sizeAhead, putWhole, putNext, ChunkListed};
 ghost use Rattle.listing.specs.Chunks.{lineAfter, tableAfter};
 
@@ -35,7 +35,7 @@ pub struct Progress {
 pub(crate) fn front_of(chunk: &[u8], at: usize, len: usize, put: usize) -> Entry
     ensures { λ r. ⌜ told r ≡ cond (roomy len put) (entryOf (drop at (now (chunk .entry)))) end ⌝ }
 {
-    if !crate::roomy(len, put) {
+    if !lines::roomy(len, put) {
         return Entry::End;
     }
     if at > chunk.len() {
@@ -102,7 +102,7 @@ fn put_whole(out: &mut [u8], p: Progress, size: usize, outcome: Outcome) -> Prog
     ensures { λ r. ⌜ (r ≡ putWhole size (lineText (next (p .records)) (lineOf outcome)) p (now (out .entry)) .0) × ((now (out .exit) ≡ putWhole size (lineText (next (p .records)) (lineOf outcome)) p (now (out .entry)) .1) × (p .put ≤ length (now (out .entry)) → r .put ≤ length (now (out .exit)))) ⌝ }
 {
     let records = std::num::wrapping_add_u64(p.records, 1);
-    match crate::put_record(out, p.put, records, outcome) {
+    match lines::put_record(out, p.put, records, outcome) {
         Written::NoRoom => stopped(p),
         Written::UpTo(end) => Progress {
             at: p.at + size,

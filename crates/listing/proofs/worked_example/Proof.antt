@@ -10,8 +10,8 @@ use Rattle.stream.specs.Step.{stepped}
 use Rattle.stream.specs.Answers.{refusedWith, stepOf as frameStep, answerOf, after, idOf}
 use Rattle.table.specs.Table.{any, place, admit, remove, numberWith, receive}
 use Rattle.capture.specs.Records.{lengthOf, kindOf, frameOf, wrongLength, unknownKind, entryOf}
-use Rattle.listing.specs.Text.{digits, decimal}
-use Rattle.listing.specs.Lines.{endLine, flagsText, timingText, lineText}
+use Rattle.lines.specs.Text.{digits, decimal}
+use Rattle.lines.specs.Lines.{endLine, flagsText, timingText, lineText}
 use Rattle.listing.specs.Listing.{stepOf, listedFrom, listing}
 use Rattle.listing.specs.Example.{exampleCapture, exampleListing}
 use Rattle.listing.proofs.worked_example.Statement.{statement}

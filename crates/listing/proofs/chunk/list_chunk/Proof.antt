@@ -57,13 +57,13 @@ use Rattle.table.proofs.Calls.{calls-some}
 use Rattle.table.proofs.Lending.{Mine}
 use Rattle.table.proofs.Locals.{Slots, freed}
 use Rattle.table.proofs.Pieces.{rest-of}
-use Rattle.listing.specs.declared.Outcome.{Outcome}
+use Rattle.lines.specs.declared.Outcome.{Outcome}
 use Rattle.listing.specs.declared.chunk.Progress.{Progress}
-use Rattle.listing.specs.Lines.{lineOf}
+use Rattle.lines.specs.Lines.{lineOf}
 use Rattle.listing.specs.Chunks.{Run}
 use Rattle.listing.specs.Progress.{sizeAhead, ChunkListed}
-use Rattle.listing.proofs.Outcome as O
-use Rattle.listing.proofs.Outcome.Laws as O′
+use Rattle.lines.proofs.Outcome as O
+use Rattle.lines.proofs.Outcome.Laws as O′
 use Rattle.listing.proofs.chunk.Progress as D
 use Rattle.listing.proofs.chunk.Progress.Laws as D′
 use Rattle.listing.proofs.Lent.{calls-lent}

@@ -68,10 +68,10 @@ use Rattle.table.proofs.admit.Met as admit-thm
 use Rattle.table.proofs.remove.Symbol as remove-def
 use Rattle.table.proofs.remove.Symbol.{name as #table·remove}
 use Rattle.table.proofs.remove.Met as remove-thm
-use Rattle.listing.specs.declared.Outcome.{Outcome}
-use Rattle.listing.specs.declared.Outcome.the-variants.{Refused}
-use Rattle.listing.proofs.Outcome as O
-use Rattle.listing.proofs.Outcome.Laws as O′
+use Rattle.lines.specs.declared.Outcome.{Outcome}
+use Rattle.lines.specs.declared.Outcome.the-variants.{Refused}
+use Rattle.lines.proofs.Outcome as O
+use Rattle.lines.proofs.Outcome.Laws as O′
 use Rattle.listing.proofs.Lent.{calls-kept, calls-lent}
 use Rattle.listing.proofs.Obeying.{Obeys, length-admit, length-remove, length-receive, obeys-frame, obeys-admission, obeys-removal}
 use Rattle.listing.proofs.Callees.{machI, machO, Part, PartAlive, FrameAt, FrameAtSaid, to-frame-at, goes-frame-at, frame-at-is, Receive, ReceiveSaid, received, to-receive, goes-receive, receive-is, Admit, AdmitSaid, to-admit, goes-admit, admit-is, Remove, RemoveSaid, to-remove, goes-remove, remove-is, OfReceipt, OfReceiptSaid, to-of-receipt, goes-of-receipt, of-receipt-is, OfAdmission, OfAdmissionSaid, to-of-admission, goes-of-admission, of-admission-is, OfRemoval, OfRemovalSaid, to-of-removal, goes-of-removal, of-removal-is}

@@ -1,5 +1,5 @@
 use borrow.Author.Needs.{needs}
-use Rattle.listing.specs.Lines.{admitted}
+use Rattle.lines.specs.Lines.{admitted}
 use Rattle.listing.proofs.Chunks.{change-refused}
 use Rattle.listing.proofs.chunk.outcome_of_admission.Statement.{statement}
 use Rattle.listing.proofs.chunk.outcome_of_admission.Tie as tie

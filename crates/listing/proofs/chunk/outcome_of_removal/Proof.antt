@@ -1,5 +1,5 @@
 use borrow.Author.Needs.{needs}
-use Rattle.listing.specs.Lines.{removed}
+use Rattle.lines.specs.Lines.{removed}
 use Rattle.listing.proofs.Chunks.{change-refused}
 use Rattle.listing.proofs.chunk.outcome_of_removal.Statement.{statement}
 use Rattle.listing.proofs.chunk.outcome_of_removal.Tie as tie

@@ -3,10 +3,10 @@ use mathlib.Core.Path.{_∙_, sym, ap, subst}
 use lib.ListN.{length}
 use borrow.Author.Needs.{needs}
 use denote.Ref.{now}
-use Rattle.listing.specs.Lines.{lineOf, lineText}
-use Rattle.listing.specs.declared.Written.{Written}
+use Rattle.lines.specs.Lines.{lineOf, lineText}
+use Rattle.lines.specs.declared.Written.{Written}
 use Rattle.listing.specs.Listing.{next}
-use Rattle.listing.specs.Writing.{told, writing}
+use Rattle.lines.specs.Writing.{told, writing}
 use Rattle.listing.proofs.Chunks.{none-put, stays, passed-to, line-put}
 use Rattle.listing.proofs.chunk.put_whole.Statement.{statement}
 use Rattle.listing.proofs.chunk.put_whole.Tie as tie

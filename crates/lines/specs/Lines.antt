@@ -1,0 +1,65 @@
+-- The lines of a listing (document 01, Capture and listing). Each ends in a line feed.
+use Prim.Native.Nat.{ℕ}
+use mathlib.Core.Bool.{Bool, true, false}
+use mathlib.Core.List.{List, _++_}
+use Rattle.frame.specs.Refusals.{numberOf}
+use Rattle.presentation.specs.declared.Kind.{Kind}
+use Rattle.presentation.specs.declared.Kind.the-variants.{None, Cut, Outside, Late, Ahead}
+use Rattle.presentation.specs.declared.Timing.{Timing}
+use Rattle.stream.specs.declared.Flags.{Flags}
+use Rattle.lines.specs.declared.Outcome.{Outcome}
+use Rattle.lines.specs.declared.Outcome.the-variants.{Admitted, Removed, Refused, Frame}
+use Rattle.lines.specs.Text.{ascii, decimal, signed}
+
+-- ---- The first line and the last
+
+abbrev pub startLine : List ℕ
+startLine = ascii "avtp listing 1\n"
+
+unfoldable pub endLine : ℕ → List ℕ
+endLine records = ascii "end records=" ++ decimal records ++ ascii "\n"
+
+-- ---- The line of a record
+
+-- what it says of the record; a refusal has document 01's number
+pub data Line : Type 0 where
+  admitted : Line
+  removed : Line
+  refused : ℕ → Line
+  frame : Flags → Timing → Line
+
+abbrev pub lineOf : Outcome → Line
+lineOf Admitted = admitted
+lineOf Removed = removed
+lineOf (Refused r) = refused (numberOf r)
+lineOf (Frame flags timing) = frame flags timing
+
+-- a raised flag prints its word
+abbrev pub flagWord : Bool → List ℕ → List ℕ
+flagWord true word = word
+flagWord false word = ascii "ok"
+
+-- `break` for seq and dbc, `change` for fmt and mr
+unfoldable pub flagsText : Flags → List ℕ
+flagsText f =
+    (ascii " frame seq=" ++ flagWord (f .sequence) (ascii "break"))
+    ++ (ascii " dbc=" ++ flagWord (f .block) (ascii "break"))
+    ++ (ascii " fmt=" ++ flagWord (f .format) (ascii "change"))
+    ++ (ascii " mr=" ++ flagWord (f .mr) (ascii "change"))
+
+abbrev pub kindWord : Kind → List ℕ
+kindWord None = ascii "none"
+kindWord Cut = ascii "cut"
+kindWord Outside = ascii "outside"
+kindWord Late = ascii "late"
+kindWord Ahead = ascii "ahead"
+
+unfoldable pub timingText : Timing → List ℕ
+timingText t = ascii " time=" ++ kindWord (t .kind) ++ ascii " offset=" ++ signed (t .offset) ++ ascii "\n"
+
+-- the line of record number n
+unfoldable pub lineText : ℕ → Line → List ℕ
+lineText n admitted = decimal n ++ ascii " admitted\n"
+lineText n removed = decimal n ++ ascii " removed\n"
+lineText n (refused number) = decimal n ++ ascii " refused " ++ decimal number ++ ascii "\n"
+lineText n (frame flags timing) = decimal n ++ flagsText flags ++ timingText timing

@@ -1,0 +1,77 @@
+// The lines of a listing, put into a buffer that the caller lends.
+mod parts;
+mod text;
+
+use frame::refusal::Refusal;
+use presentation::Timing;
+use stream::Flags;
+ghost use mathlib.Core.Path.{_≡_};
+ghost use Prim.Native.Nat.{_≤_};
+ghost use lib.ListN.{length};
+ghost use Rattle.lines.specs.Lines.{startLine, endLine, lineOf, lineText};
+ghost use Rattle.lines.specs.Writing.{roomy, told, writing};
+
+// What became of a record of a capture.
+pub enum Outcome {
+    Admitted,
+    Removed,
+    Refused(Refusal),
+    // An accepted frame.
+    Frame { flags: Flags, timing: Timing },
+}
+
+pub enum Written {
+    // The line is in the buffer, and this is the place after it.
+    UpTo(usize),
+    // Fewer than `LINE_ROOM` bytes were left for it, and the buffer is as it was.
+    NoRoom,
+}
+
+// The room that a line is given. No line has more than 110 bytes.
+pub const LINE_ROOM: usize = 128;
+
+// Does a buffer of `len` bytes have room for a line at place `at`?
+pub fn roomy(len: usize, at: usize) -> bool
+    ensures { λ r. ⌜ r ≡ roomy len at ⌝ }
+{
+    if len < LINE_ROOM {
+        return false;
+    }
+    if len - LINE_ROOM < at {
+        return false;
+    }
+    true
+}
+
+// The first line.
+pub fn put_start(out: &mut [u8], at: usize) -> Written
+    ensures { λ r. ⌜ told r (now (out .exit)) ≡ writing (now (out .entry)) at startLine ⌝ }
+    ensures { λ r. ⌜ told r (now (out .exit)) .end ≤ length (now (out .exit)) ⌝ }
+{
+    if !roomy(out.len(), at) {
+        return Written::NoRoom;
+    }
+    Written::UpTo(text::put(out, at, b"avtp listing 1\n"))
+}
+
+// The line of record number `n`.
+pub fn put_record(out: &mut [u8], at: usize, n: u64, outcome: Outcome) -> Written
+    ensures { λ r. ⌜ told r (now (out .exit)) ≡ writing (now (out .entry)) at (lineText n (lineOf outcome)) ⌝ }
+    ensures { λ r. ⌜ told r (now (out .exit)) .end ≤ length (now (out .exit)) ⌝ }
+{
+    if !roomy(out.len(), at) {
+        return Written::NoRoom;
+    }
+    Written::UpTo(parts::put_line(out, at, n, outcome))
+}
+
+// The last line, with the number of records.
+pub fn put_end(out: &mut [u8], at: usize, records: u64) -> Written
+    ensures { λ r. ⌜ told r (now (out .exit)) ≡ writing (now (out .entry)) at (endLine records) ⌝ }
+    ensures { λ r. ⌜ told r (now (out .exit)) .end ≤ length (now (out .exit)) ⌝ }
+{
+    if !roomy(out.len(), at) {
+        return Written::NoRoom;
+    }
+    Written::UpTo(parts::put_last(out, at, records))
+}
