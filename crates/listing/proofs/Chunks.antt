@@ -18,7 +18,7 @@ use Rattle.lines.specs.declared.Written.the-variants.{UpTo, NoRoom}
 use Rattle.lines.specs.Lines.{Line, refused}
 use Rattle.listing.specs.Listing.{changeLine, frameLine, next}
 use Rattle.lines.specs.Writing.{roomy, Writing, writing, told}
-use Rattle.listing.specs.Progress.{halted, passed, putWhole}
+use Rattle.listing.specs.Private.{halted, passed, putWhole}
 
 -- ---- past the end of a chunk nothing stands, and there is no frame
 past : (l : List ℕ) (i : ℕ) → length l ≤ i → drop i l ≡ []

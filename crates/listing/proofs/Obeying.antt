@@ -16,7 +16,7 @@ use Rattle.table.specs.Table.{Table, place, holds, isUnused, admitChecks, remov
 use Rattle.lines.specs.declared.Outcome.{Outcome}
 use Rattle.lines.specs.Lines.{Line, admitted, removed, lineOf}
 use Rattle.listing.specs.Listing.{changeLine, frameLine, stepBy}
-use Rattle.listing.specs.Chunks.{lineAfter, tableAfter}
+use Rattle.listing.specs.Private.{lineAfter, tableAfter}
 
 -- ---- the table stays as long as it was
 length-changed : (n : ℕ) (t : Table) (i : ℕ) (r : Record) → length (changed n t i r) ≡ length t

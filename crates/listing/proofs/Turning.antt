@@ -39,8 +39,7 @@ use Rattle.lines.specs.declared.Outcome.{Outcome}
 use Rattle.listing.specs.declared.chunk.Progress.{Progress}
 use Rattle.lines.specs.Lines.{lineOf, lineText}
 use Rattle.listing.specs.Listing.{stepBy, next}
-use Rattle.listing.specs.Chunks.{lineAfter, tableAfter}
-use Rattle.listing.specs.Progress.{sizeAhead, putNext}
+use Rattle.listing.specs.Private.{lineAfter, tableAfter, sizeAhead, putNext}
 use Rattle.lines.proofs.Outcome as O
 use Rattle.lines.proofs.Outcome.Laws as O′
 use Rattle.listing.proofs.chunk.Progress as D

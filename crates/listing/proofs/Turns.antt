@@ -15,8 +15,8 @@ use Rattle.listing.specs.declared.chunk.Progress.{Progress}
 use Rattle.lines.specs.Lines.{Line, admitted, removed, refused, lineText}
 use Rattle.listing.specs.Listing.{changeLine, frameLine, stepBy, stepOf, next}
 use Rattle.lines.specs.Writing.{roomy}
-use Rattle.listing.specs.Chunks.{Run, stopped, turnBy, turn, turns, chunked, usedOf, lineAfter, tableAfter}
-use Rattle.listing.specs.Progress.{passed, sizeAhead, putWhole, putNext, ChunkListed}
+use Rattle.listing.specs.Chunks.{Run, stopped, turnBy, turn, turns, chunked, usedOf, ChunkListed}
+use Rattle.listing.specs.Private.{lineAfter, tableAfter, passed, sizeAhead, putWhole, putNext}
 use Rattle.lines.proofs.Puts.{sets-append}
 use Rattle.listing.proofs.Obeying.{length-admit, length-remove, length-receive}
 

@@ -1,23 +1,15 @@
 -- A chunk of a capture at a time: the whole records at its front, as far as the output has room for their lines.
-use Prim.Native.Nat.{ℕ, zero, suc, _-_}
+use Prim.Native.Nat.{ℕ, zero, suc, _-_, _≤_}
+use mathlib.Core.Path.{_≡_}
 use mathlib.Core.Bool.{Bool, true, false, cond}
 use mathlib.Core.List.{List, [], _++_}
 use lib.ListN.{length}
+use lib.Seq.{sets}
 use Rattle.table.specs.Table.{Table}
-use Rattle.lines.specs.Lines.{Line, refused, lineText}
+use Rattle.lines.specs.Lines.{lineText}
 use Rattle.lines.specs.Writing.{roomy}
+use Rattle.listing.specs.declared.chunk.Progress.{Progress}
 use Rattle.listing.specs.Listing.{Step, done, last, more, stepOf, next}
-
--- the line of a step, where nothing is left that of a record that is cut, and the table after it
-abbrev pub lineAfter : Step → Line
-lineAfter done = refused 41
-lineAfter (last line) = line
-lineAfter (more line rest t) = line
-
-abbrev pub tableAfter : Table → Step → Table
-tableAfter t done = t
-tableAfter t (last line) = t
-tableAfter t (more line rest u) = u
 
 -- a chunk under way: the bytes that remain of it, the text so far, the records listed in all, the table, and whether it goes on
 pub record Run : Type 0 where
@@ -58,3 +50,15 @@ chunked chunk t n room = turns (suc (length chunk)) room (record { rest = chunk;
 -- the bytes of the chunk that were listed
 abbrev pub usedOf : List ℕ → Run → ℕ
 usedOf chunk r = length chunk - length (r .rest)
+
+-- ---- What a call has listed of a chunk
+
+-- a chunk is listed, after n records, with the table t and the output d: r is what is answered, t′ the table and d′ the output afterwards
+pub record ChunkListed (chunk : List ℕ) (t : Table) (n : ℕ) (d : List ℕ) (r : Progress) (t′ : Table) (d′ : List ℕ) : Type 0 where
+  pub at : r .at ≡ usedOf chunk (chunked chunk t n (length d))
+  pub put : r .put ≡ length (chunked chunk t n (length d) .text)
+  pub records : r .records ≡ chunked chunk t n (length d) .records
+  pub table : t′ ≡ chunked chunk t n (length d) .table
+  pub out : d′ ≡ sets d 0 (chunked chunk t n (length d) .text)
+  pub at-within : r .at ≤ length chunk
+  pub put-within : r .put ≤ length d

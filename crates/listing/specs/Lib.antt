@@ -3,4 +3,4 @@ pub mod Bound
 pub mod Example
 pub mod Chunks
 pub mod InChunks
-pub mod Progress
+pub mod Private

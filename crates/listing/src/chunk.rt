@@ -17,8 +17,8 @@ ghost use Rattle.table.specs.Table.{changeNumber};
 ghost use Rattle.lines.specs.Lines.{admitted, removed, lineOf, lineText};
 ghost use Rattle.listing.specs.Listing.{changeLine, frameLine, stepBy, next};
 ghost use Rattle.lines.specs.Writing.{roomy};
-ghost use Rattle.listing.specs.Progress.{halted, sizeAhead, putWhole, putNext, ChunkListed};
-ghost use Rattle.listing.specs.Chunks.{lineAfter, tableAfter};
+ghost use Rattle.listing.specs.Private.{halted, sizeAhead, putWhole, putNext, lineAfter, tableAfter};
+ghost use Rattle.listing.specs.Chunks.{ChunkListed};
 
 // How far the chunk is listed.
 pub struct Progress {

@@ -40,7 +40,8 @@ use Rattle.table.specs.declared.Found.{Found}
 use Rattle.table.specs.declared.Wanted.{Wanted}
 use Rattle.table.specs.declared.Target.{Target}
 use Rattle.table.specs.declared.Change.{Change}
-use Rattle.table.specs.Table.{at, wants, find, readingFor, receive, placeToAdmit, placeToRemove, changeOf, changeNumber, admit, remove}
+use Rattle.table.specs.Table.{at, receive, changeNumber, admit, remove}
+use Rattle.table.specs.Private.{wants, find, readingFor, placeToAdmit, placeToRemove, changeOf}
 use Rattle.table.proofs.Machine.{machR, machU, machF, machQ, machX}
 use Rattle.table.proofs.Calls.{is-said, some-said}
 use Rattle.table.proofs.Lending.{is-last, some-last}

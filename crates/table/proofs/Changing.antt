@@ -17,7 +17,8 @@ use Rattle.table.specs.declared.Found.the-variants.{At, Nothing}
 use Rattle.table.specs.declared.Wanted.the-variants.{Holding, Unused}
 use Rattle.table.specs.declared.Target.{Target}
 use Rattle.table.specs.declared.Target.the-variants.{Place, Refuse}
-use Rattle.table.specs.Table.{Table, find, admit, remove, changed, changeNumber, changeOf, placeOf, placeToAdmit, placeToRemove}
+use Rattle.table.specs.Table.{Table, admit, remove, changed, changeNumber}
+use Rattle.table.specs.Private.{find, changeOf, placeOf, placeToAdmit, placeToRemove}
 use Rattle.table.proofs.Searched.{found-at, found-none, found-within}
 
 -- ---- a table changed at a target

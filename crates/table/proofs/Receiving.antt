@@ -26,7 +26,8 @@ use Rattle.stream.specs.Answers.{answerOf, after, idOf, told}
 use Rattle.stream.proofs.Laws.{served-after, served-answer}
 use Rattle.table.specs.declared.Found.the-variants.{At, Nothing}
 use Rattle.table.specs.declared.Wanted.the-variants.{Holding}
-use Rattle.table.specs.Table.{Table, any, place, holds, at, find, numberWith, receive, receiveAlone, readingFor, only}
+use Rattle.table.specs.Table.{Table, any, place, holds, at, numberWith, receive, receiveAlone, only}
+use Rattle.table.specs.Private.{find, readingFor}
 use Rattle.table.proofs.Searched.{found-at, found-none}
 
 -- ---- the number, from the reader's and the search's

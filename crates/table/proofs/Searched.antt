@@ -14,7 +14,8 @@ use Rattle.stream.specs.Records.{unused}
 use Rattle.table.specs.declared.Found.{Found}
 use Rattle.table.specs.declared.Found.the-variants.{At, Nothing}
 use Rattle.table.specs.declared.Wanted.{Wanted}
-use Rattle.table.specs.Table.{Table, any, place, at, wants, find}
+use Rattle.table.specs.Table.{Table, any, place, at}
+use Rattle.table.specs.Private.{wants, find}
 
 -- what a search answers that has come to the place i, with the records l left
 abbrev pub findFrom : (Record → Bool) → ℕ → Table → Found

@@ -4,20 +4,11 @@ use mathlib.Core.Bool.{Bool, false, not, cond, _&&_, _||_}
 use mathlib.Core.List.{List, [], _∷_, _++_}
 use lib.Dec.{eqb, ltb}
 use lib.ListN.{length, getD, set}
-use Rattle.frame.specs.declared.refusal.Refusal.the-variants.{TableTooLong, AlreadyAdmitted, TableFull, NothingToRemove}
 use Rattle.frame.specs.Refusals.{numberOf, Check, _answers_, firstOf}
 use Rattle.frame.specs.Checks.{frameChecks}
-use Rattle.frame.specs.Layout.{fieldsOf}
-use Rattle.frame.specs.Reading.{Answer as ReadAnswer, answer}
 use Rattle.stream.specs.declared.Record.{Record}
 use Rattle.stream.specs.Records.{unused, admitted}
 use Rattle.stream.specs.Answers.{Answer, refusedWith, answerOf, after, idOf}
-use Rattle.table.specs.declared.Found.{Found}
-use Rattle.table.specs.declared.Found.the-variants.{At, Nothing}
-use Rattle.table.specs.declared.Wanted.{Wanted}
-use Rattle.table.specs.declared.Wanted.the-variants.{Holding, Unused}
-use Rattle.table.specs.declared.Target.{Target}
-use Rattle.table.specs.declared.Target.the-variants.{Place, Refuse}
 use Rattle.table.specs.declared.Change.{Change}
 use Rattle.table.specs.declared.Change.the-variants.{Made, Refused}
 
@@ -103,10 +94,6 @@ receiveBy (suc n) t frame L = (refusedWith (suc n), t)
 unfoldable pub receive : Table → List ℕ → ℕ → Answer × Table
 receive t frame L = receiveBy (numberWith t frame) t frame L
 
--- what the reader answers for a table of n records: its numbers and fields, 20 before all else
-unfoldable pub readingFor : ℕ → List ℕ → ReadAnswer
-readingFor n frame = answer (firstOf (ltb 64 n answers 20 ∷ frameChecks frame)) (fieldsOf frame)
-
 -- ---- A record lent alone is a table of one
 
 abbrev pub only : Table → Record
@@ -114,40 +101,3 @@ only t = at t 0
 
 unfoldable pub receiveAlone : Record → List ℕ → ℕ → Answer × Record
 receiveAlone r frame L = ((receive (r ∷ []) frame L) .0, only ((receive (r ∷ []) frame L) .1))
-
--- ---- What the search answers
-
-abbrev pub wants : Wanted → Record → Bool
-wants (Holding id) = holds id
-wants Unused = isUnused
-
-unfoldable pub find : Table → Wanted → Found
-find t w = cond (any (wants w) t) (At (place (wants w) t)) Nothing
-
--- ---- Where a record is stored, or why none is
-
-abbrev admitAt : Found → Found → Target
-admitAt (At j) free = Refuse AlreadyAdmitted
-admitAt Nothing (At i) = Place i
-admitAt Nothing Nothing = Refuse TableFull
-
-abbrev removeAt : Found → Target
-removeAt (At i) = Place i
-removeAt Nothing = Refuse NothingToRemove
-
--- admission takes the place of the unused record, unless the id is held already
-unfoldable pub placeToAdmit : ℕ → Found → Found → Target
-placeToAdmit n held free = cond (ltb 64 n) (Refuse TableTooLong) (admitAt held free)
-
--- removal takes the place of the record that holds the id
-unfoldable pub placeToRemove : ℕ → Found → Target
-placeToRemove n held = cond (ltb 64 n) (Refuse TableTooLong) (removeAt held)
-
--- what is answered, and the place where there is one
-abbrev pub changeOf : Target → Change
-changeOf (Place i) = Made
-changeOf (Refuse r) = Refused r
-
-abbrev pub placeOf : Target → ℕ
-placeOf (Place i) = i
-placeOf (Refuse r) = 0

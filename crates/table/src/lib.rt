@@ -13,7 +13,8 @@ ghost use Rattle.frame.specs.Reading.{payloadOf, told as readAs};
 ghost use Rattle.stream.specs.Answers.{told};
 ghost use Rattle.stream.specs.Records.{unused};
 ghost use Rattle.stream.specs.declared.Receipt.the-variants.{Refused};
-ghost use Rattle.table.specs.Table.{at, wants, find, readingFor, receive, receiveAlone, changeNumber, changed, placeToAdmit, placeToRemove, changeOf, placeOf, admit, remove};
+ghost use Rattle.table.specs.Table.{at, receive, receiveAlone, changeNumber, changed, admit, remove};
+ghost use Rattle.table.specs.Private.{wants, find, readingFor, placeToAdmit, placeToRemove, changeOf, placeOf};
 
 // What a search looks for: the record in use that holds an id, or an unused one.
 pub(crate) enum Wanted {

@@ -48,7 +48,7 @@ use Rattle.stream.proofs.admitted.Met as admitted-thm
 use Rattle.table.specs.declared.Found.{Found}
 use Rattle.table.specs.declared.Target.{Target}
 use Rattle.table.specs.declared.Wanted.the-variants.{Holding, Unused}
-use Rattle.table.specs.Table.{find, placeToAdmit, changeOf}
+use Rattle.table.specs.Private.{find, placeToAdmit, changeOf}
 use Rattle.table.proofs.Found as F
 use Rattle.table.proofs.Found.Laws as F′
 use Rattle.table.proofs.Wanted as Q

@@ -46,7 +46,8 @@ use Rattle.stream.specs.declared.Record.{Record}
 use Rattle.table.specs.declared.Found.{Found}
 use Rattle.table.specs.declared.Found.the-variants.{At, Nothing}
 use Rattle.table.specs.declared.Wanted.{Wanted}
-use Rattle.table.specs.Table.{at, wants, find}
+use Rattle.table.specs.Table.{at}
+use Rattle.table.specs.Private.{wants, find}
 use Rattle.stream.proofs.Record as T
 use Rattle.stream.proofs.Record.Laws as T′
 use Rattle.table.proofs.Found as F

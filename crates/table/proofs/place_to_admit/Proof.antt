@@ -1,5 +1,5 @@
 use borrow.Author.Needs.{needs}
-use Rattle.table.specs.Table.{placeToAdmit}
+use Rattle.table.specs.Private.{placeToAdmit}
 use Rattle.table.proofs.place_to_admit.Statement.{statement}
 use Rattle.table.proofs.place_to_admit.Tie as tie
 

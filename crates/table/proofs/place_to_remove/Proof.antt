@@ -1,5 +1,5 @@
 use borrow.Author.Needs.{needs}
-use Rattle.table.specs.Table.{placeToRemove}
+use Rattle.table.specs.Private.{placeToRemove}
 use Rattle.table.proofs.place_to_remove.Statement.{statement}
 use Rattle.table.proofs.place_to_remove.Tie as tie
 

@@ -71,7 +71,8 @@ use Rattle.table.specs.declared.Found.{Found}
 use Rattle.table.specs.declared.Found.the-variants.{At, Nothing}
 use Rattle.table.specs.declared.Wanted.{Wanted}
 use Rattle.table.specs.declared.Wanted.the-variants.{Holding}
-use Rattle.table.specs.Table.{at, find}
+use Rattle.table.specs.Table.{at}
+use Rattle.table.specs.Private.{find}
 use Rattle.table.proofs.Found as F
 use Rattle.table.proofs.Found.Laws as F′
 use Rattle.table.proofs.Wanted as Q

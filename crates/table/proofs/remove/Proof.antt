@@ -48,7 +48,7 @@ use Rattle.stream.proofs.unused.Met as unused-thm
 use Rattle.table.specs.declared.Found.{Found}
 use Rattle.table.specs.declared.Target.{Target}
 use Rattle.table.specs.declared.Wanted.the-variants.{Holding}
-use Rattle.table.specs.Table.{find, placeToRemove, changeOf}
+use Rattle.table.specs.Private.{find, placeToRemove, changeOf}
 use Rattle.table.proofs.Found as F
 use Rattle.table.proofs.Found.Laws as F′
 use Rattle.table.proofs.Wanted as Q

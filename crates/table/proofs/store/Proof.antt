@@ -49,7 +49,7 @@ use Rattle.stream.proofs.Record.Laws as T′
 use Rattle.table.specs.declared.Target.{Target}
 use Rattle.table.specs.declared.Target.the-variants.{Place, Refuse}
 use Rattle.table.specs.declared.Change.the-variants.{Made, Refused}
-use Rattle.table.specs.Table.{changeOf}
+use Rattle.table.specs.Private.{changeOf}
 use Rattle.table.proofs.Target as X
 use Rattle.table.proofs.Target.Laws as X′
 use Rattle.table.proofs.Change as Y

@@ -60,8 +60,8 @@ use Rattle.table.proofs.Pieces.{rest-of}
 use Rattle.lines.specs.declared.Outcome.{Outcome}
 use Rattle.listing.specs.declared.chunk.Progress.{Progress}
 use Rattle.lines.specs.Lines.{lineOf}
-use Rattle.listing.specs.Chunks.{Run}
-use Rattle.listing.specs.Progress.{sizeAhead, ChunkListed}
+use Rattle.listing.specs.Chunks.{Run, ChunkListed}
+use Rattle.listing.specs.Private.{sizeAhead}
 use Rattle.lines.proofs.Outcome as O
 use Rattle.lines.proofs.Outcome.Laws as O′
 use Rattle.listing.proofs.chunk.Progress as D

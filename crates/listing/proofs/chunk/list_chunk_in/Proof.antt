@@ -51,8 +51,7 @@ use Rattle.table.proofs.Lending.{Mine}
 use Rattle.table.proofs.Locals.{Slots, freed}
 use Rattle.listing.specs.declared.chunk.Progress.{Progress}
 use Rattle.listing.specs.declared.chunk.Listed.{Listed}
-use Rattle.listing.specs.Chunks.{chunked}
-use Rattle.listing.specs.Progress.{ChunkListed}
+use Rattle.listing.specs.Chunks.{chunked, ChunkListed}
 use Rattle.listing.proofs.chunk.Progress as D
 use Rattle.listing.proofs.chunk.Progress.Laws as D′
 use Rattle.listing.proofs.chunk.Listed as Q

@@ -4,7 +4,7 @@ use borrow.Author.Needs.{needs}
 use denote.Ref.{now}
 use Rattle.capture.specs.declared.Entry.{Entry}
 use Rattle.capture.specs.Records.{told}
-use Rattle.listing.specs.Progress.{sizeAhead}
+use Rattle.listing.specs.Private.{sizeAhead}
 use Rattle.listing.proofs.Chunks.{stays}
 use Rattle.listing.proofs.chunk.put_next.Statement.{statement}
 use Rattle.listing.proofs.chunk.put_next.Tie as tie

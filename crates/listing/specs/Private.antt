@@ -1,16 +1,30 @@
--- What a call has listed of a chunk, beside the output.
-use Prim.Native.Nat.{ℕ, _+_, _≤_}
-use mathlib.Core.Path.{_≡_}
+-- What the private calls answer. No public contract speaks of it.
+use Prim.Native.Nat.{ℕ, _+_}
 use mathlib.Core.Bool.{true, false, cond}
 use mathlib.Core.List.{List}
 use lib.ListN.{length}
 use lib.Seq.{sets}
 use Rattle.capture.specs.Records.{Front, end, ended, skipped, arrival, admission, removal}
 use Rattle.table.specs.Table.{Table}
-use Rattle.listing.specs.declared.chunk.Progress.{Progress}
-use Rattle.listing.specs.Listing.{next}
+use Rattle.lines.specs.Lines.{Line, refused}
 use Rattle.lines.specs.Writing.{roomy}
-use Rattle.listing.specs.Chunks.{chunked, usedOf}
+use Rattle.listing.specs.declared.chunk.Progress.{Progress}
+use Rattle.listing.specs.Listing.{Step, done, last, more, next}
+
+-- ---- One record
+
+-- the line of a step, where nothing is left that of a record that is cut, and the table after it
+abbrev pub lineAfter : Step → Line
+lineAfter done = refused 41
+lineAfter (last line) = line
+lineAfter (more line rest t) = line
+
+abbrev pub tableAfter : Table → Step → Table
+tableAfter t done = t
+tableAfter t (last line) = t
+tableAfter t (more line rest u) = u
+
+-- ---- What has been listed, and the output
 
 abbrev pub halted : Progress → Progress
 halted p = record { at = p .at; put = p .put; records = p .records; going = false }
@@ -39,13 +53,3 @@ putNext (skipped number size) line p d = putWhole size line p d
 putNext (arrival L size) line p d = putWhole size line p d
 putNext (admission id size) line p d = putWhole size line p d
 putNext (removal id size) line p d = putWhole size line p d
-
--- a chunk is listed, after n records, with the table t and the output d: r is what is answered, t′ the table and d′ the output afterwards
-pub record ChunkListed (chunk : List ℕ) (t : Table) (n : ℕ) (d : List ℕ) (r : Progress) (t′ : Table) (d′ : List ℕ) : Type 0 where
-  pub at : r .at ≡ usedOf chunk (chunked chunk t n (length d))
-  pub put : r .put ≡ length (chunked chunk t n (length d) .text)
-  pub records : r .records ≡ chunked chunk t n (length d) .records
-  pub table : t′ ≡ chunked chunk t n (length d) .table
-  pub out : d′ ≡ sets d 0 (chunked chunk t n (length d) .text)
-  pub at-within : r .at ≤ length chunk
-  pub put-within : r .put ≤ length d
