@@ -11,3 +11,4 @@ pub mod Callees
 pub mod Searched
 pub mod Receiving
 pub mod Changing
+pub mod ByValue

@@ -57,6 +57,7 @@ use Rattle.table.proofs.Change.Laws as Y′
 use Rattle.table.proofs.Machine.{machP, machN, machY}
 use Rattle.table.proofs.Calls.{calls-some}
 use Rattle.table.proofs.Lending.{Mine}
+use Rattle.table.proofs.Callees.{Changer}
 use Rattle.table.proofs.Locals.{Slots, freed}
 use Rattle.table.proofs.Pieces.{rest-of, arm-of}
 use Rattle.table.proofs.receive.Symbol as receive-def
@@ -70,11 +71,12 @@ use Rattle.table.proofs.remove.Symbol.{name as #table·remove}
 use Rattle.table.proofs.remove.Met as remove-thm
 use Rattle.lines.specs.declared.Outcome.{Outcome}
 use Rattle.lines.specs.declared.Outcome.the-variants.{Refused}
+use Rattle.lines.specs.Lines.{admitted, removed}
 use Rattle.lines.proofs.Outcome as O
 use Rattle.lines.proofs.Outcome.Laws as O′
 use Rattle.listing.proofs.Lent.{calls-kept, calls-lent}
 use Rattle.listing.proofs.Obeying.{Obeys, length-admit, length-remove, length-receive, obeys-frame, obeys-admission, obeys-removal}
-use Rattle.listing.proofs.Callees.{machI, machO, Part, PartAlive, FrameAt, FrameAtSaid, to-frame-at, goes-frame-at, frame-at-is, Receive, ReceiveSaid, received, to-receive, goes-receive, receive-is, Admit, AdmitSaid, to-admit, goes-admit, admit-is, Remove, RemoveSaid, to-remove, goes-remove, remove-is, OfReceipt, OfReceiptSaid, to-of-receipt, goes-of-receipt, of-receipt-is, OfAdmission, OfAdmissionSaid, to-of-admission, goes-of-admission, of-admission-is, OfRemoval, OfRemovalSaid, to-of-removal, goes-of-removal, of-removal-is}
+use Rattle.listing.proofs.Callees.{machI, machO, Part, PartAlive, FrameAt, FrameAtSaid, to-frame-at, goes-frame-at, frame-at-is, Receive, ReceiveSaid, received, to-receive, goes-receive, receive-is, ChangerSaid, to-changer, goes-changer, changer-is, OfReceipt, OfReceiptSaid, to-of-receipt, goes-of-receipt, of-receipt-is, OfChange, OfChangeSaid, to-of-change, goes-of-change, of-change-is}
 use Rattle.listing.proofs.chunk.frame_at.Symbol as frame-at-def
 use Rattle.listing.proofs.chunk.frame_at.Symbol.{name as #frame-at}
 use Rattle.listing.proofs.chunk.frame_at.Met as frame-at-thm
@@ -147,8 +149,8 @@ module _ {M : Type 1} (𝓤 : URA M) (H : Heap 𝓤) (A : Atoms 𝓤) (W : Given
         owned ! O.the-row (Is O.the-row) (EL.makes O.the-type O′.the-plain 𝓤 H A) r _ ok $ done !
 
   module _ (C : Calls 𝓤 H) (Λ : Loops 𝓤 H) (fm : FmC 𝓤 H (W .laws) C)
-      (known-frame-at : Triple 𝓤 (C #frame-at) (FrameAt 𝓤 H A mem run)) (known-receive : Triple 𝓤 (C #table·receive) (Receive 𝓤 H A mem run)) (known-admit : Triple 𝓤 (C #table·admit) (Admit 𝓤 H A mem run)) (known-remove : Triple 𝓤 (C #table·remove) (Remove 𝓤 H A mem run))
-      (known-of-receipt : Triple 𝓤 (C #outcome-of-receipt) (OfReceipt 𝓤 H A mem run)) (known-of-admission : Triple 𝓤 (C #outcome-of-admission) (OfAdmission 𝓤 H A mem run)) (known-of-removal : Triple 𝓤 (C #outcome-of-removal) (OfRemoval 𝓤 H A mem run))
+      (known-frame-at : Triple 𝓤 (C #frame-at) (FrameAt 𝓤 H A mem run)) (known-receive : Triple 𝓤 (C #table·receive) (Receive 𝓤 H A mem run)) (known-admit : Triple 𝓤 (C #table·admit) (Changer 𝓤 H A mem run admit)) (known-remove : Triple 𝓤 (C #table·remove) (Changer 𝓤 H A mem run remove))
+      (known-of-receipt : Triple 𝓤 (C #outcome-of-receipt) (OfReceipt 𝓤 H A mem run)) (known-of-admission : Triple 𝓤 (C #outcome-of-admission) (OfChange 𝓤 H A mem run admitted)) (known-of-removal : Triple 𝓤 (C #outcome-of-removal) (OfChange 𝓤 H A mem run removed))
       (room : Room T.the-row (length ys)) (room₁ : Room u8 (length (y .now))) where
     module _ (l₀ l₁ l₂ l₃ l₄ l₅ l₆ l₇ l₈ l₉ l₁₀ l₁₁ l₁₂ l₁₃ l₁₄ l₁₅ l₁₆ l₁₇ l₁₈ l₁₉ l₂₀ l₂₁ l₂₂ l₂₃ l₂₄ l₂₅ : ℕ) where
       abbrev E : Env 𝓤 H
@@ -230,12 +232,12 @@ module _ {M : Type 1} (𝓤 : URA M) (H : Heap 𝓤) (A : Atoms 𝓤) (W : Given
             assigns ! (addr ! (from ! (fld ! refl (hop ! (look-in ! 52 (sub ! 0 refl (whole !))) (stop !))))) (from ! (stop !)) (init ! 10 refl (tt, tt)) $
             assigns ! (agg ! (and-then ! (load ! (from ! (stop !)) (look ! 10 refl)) (and-then ! (load ! (from ! (fld ! refl (stop !))) (look-in ! 52 (sub ! 1 refl (whole !)))) (no-more !)))) (from ! (stop !)) (init ! 8 refl (tt, (tt, (record { fits = room .0 }, tt)))) $
             nothing ! $ move ! (1 ∷ 2 ∷ 0 ∷ []) $
-            calls-lent ! fm (Admit 𝓤 H A mem run) known-admit T.the-row (named 0) κ q γ b o (length ys) ys refl room (λ ν δ. to-admit 𝓤 H A mem run ν b o δ ys id) (‵ ftrue) (‵ ftrue) Y.the-row (AdmitSaid 𝓤 H A mem run 0 b o γ ys id) machY (λ c v. EL.tells Y.the-type Y′.the-laws c (v ∷ [])) (admit ys id .1) (length-admit ys id)
-            (λ ν δ. goes-admit 𝓤 H A mem run ν b o δ ys id W id-fits) (λ ν δ. admit-is 𝓤 H A mem run ν b o δ ys id W)
+            calls-lent ! fm (Changer 𝓤 H A mem run admit) known-admit T.the-row (named 0) κ q γ b o (length ys) ys refl room (λ ν δ. to-changer 𝓤 H A mem run ν b o δ ys admit id) (‵ ftrue) (‵ ftrue) Y.the-row (ChangerSaid 𝓤 H A mem run 0 b o γ ys admit id) machY (λ c v. EL.tells Y.the-type Y′.the-laws c (v ∷ [])) (admit ys id .1) (length-admit ys id)
+            (λ ν δ. goes-changer 𝓤 H A mem run ν b o δ ys admit id W id-fits) (λ ν δ. changer-is 𝓤 H A mem run ν b o δ ys admit id W)
             (λ ν δ. (and-then ! (load ! (from ! (stop !)) (look ! 8 refl)) (and-then ! (load ! (from ! (stop !)) (look ! 32 refl)) (no-more !)))) (λ c said ok-c. move ! (2 ∷ []) $ drop ! $
             land ! (from ! (stop !)) (init ! 30 refl (EL.lawful Y.the-type Y′.the-laws 𝓤 H A W tt .typed c _ ok-c .0)) $
-            nothing ! $ calls-some ! fm (OfAdmission 𝓤 H A mem run) known-of-admission (to-of-admission 𝓤 H A mem run c) (‵ ftrue) (‵ ftrue) O.the-row (OfAdmissionSaid 𝓤 H A mem run c) machO (λ w v. EL.tells O.the-type O′.the-laws w (v ∷ []))
-            (goes-of-admission 𝓤 H A mem run c W ok-c) (of-admission-is 𝓤 H A mem run c W) (and-then ! (load ! (from ! (stop !)) (look ! 31 refl)) (no-more !)) (λ w line ok-w. drop ! $
+            nothing ! $ calls-some ! fm (OfChange 𝓤 H A mem run admitted) known-of-admission (to-of-change 𝓤 H A mem run admitted c) (‵ ftrue) (‵ ftrue) O.the-row (OfChangeSaid 𝓤 H A mem run admitted c) machO (λ w v. EL.tells O.the-type O′.the-laws w (v ∷ []))
+            (goes-of-change 𝓤 H A mem run admitted c W ok-c) (of-change-is 𝓤 H A mem run admitted c W) (and-then ! (load ! (from ! (stop !)) (look ! 31 refl)) (no-more !)) (λ w line ok-w. drop ! $
             land ! (from ! (stop !)) (init ! 28 refl (EL.lawful O.the-type O′.the-laws 𝓤 H A W tt .typed w _ ok-w .0)) $
             assigns-last ! (of-opd ! (load ! (from ! (stop !)) (look ! 28 refl))) (from ! (stop !)) (init ! 20 refl (EL.lawful O.the-type O′.the-laws 𝓤 H A W tt .typed w _ ok-w .0)) $ exec ! C Λ E mir.t-2 (atRet E (Post (entry.Admit id size) ok-e)) $
             finish (entry.Admit id size) ok-e w (admit ys id .1) (obeys-admission rest ys w id size c said line) (length-admit ys id) ok-w
@@ -248,12 +250,12 @@ module _ {M : Type 1} (𝓤 : URA M) (H : Heap 𝓤) (A : Atoms 𝓤) (W : Given
             assigns ! (addr ! (from ! (fld ! refl (hop ! (look-in ! 52 (sub ! 0 refl (whole !))) (stop !))))) (from ! (stop !)) (init ! 6 refl (tt, tt)) $
             assigns ! (agg ! (and-then ! (load ! (from ! (stop !)) (look ! 6 refl)) (and-then ! (load ! (from ! (fld ! refl (stop !))) (look-in ! 52 (sub ! 1 refl (whole !)))) (no-more !)))) (from ! (stop !)) (init ! 4 refl (tt, (tt, (record { fits = room .0 }, tt)))) $
             nothing ! $ move ! (1 ∷ 2 ∷ 0 ∷ []) $
-            calls-lent ! fm (Remove 𝓤 H A mem run) known-remove T.the-row (named 0) κ q γ b o (length ys) ys refl room (λ ν δ. to-remove 𝓤 H A mem run ν b o δ ys id) (‵ ftrue) (‵ ftrue) Y.the-row (RemoveSaid 𝓤 H A mem run 0 b o γ ys id) machY (λ c v. EL.tells Y.the-type Y′.the-laws c (v ∷ [])) (remove ys id .1) (length-remove ys id)
-            (λ ν δ. goes-remove 𝓤 H A mem run ν b o δ ys id W id-fits) (λ ν δ. remove-is 𝓤 H A mem run ν b o δ ys id W)
+            calls-lent ! fm (Changer 𝓤 H A mem run remove) known-remove T.the-row (named 0) κ q γ b o (length ys) ys refl room (λ ν δ. to-changer 𝓤 H A mem run ν b o δ ys remove id) (‵ ftrue) (‵ ftrue) Y.the-row (ChangerSaid 𝓤 H A mem run 0 b o γ ys remove id) machY (λ c v. EL.tells Y.the-type Y′.the-laws c (v ∷ [])) (remove ys id .1) (length-remove ys id)
+            (λ ν δ. goes-changer 𝓤 H A mem run ν b o δ ys remove id W id-fits) (λ ν δ. changer-is 𝓤 H A mem run ν b o δ ys remove id W)
             (λ ν δ. (and-then ! (load ! (from ! (stop !)) (look ! 4 refl)) (and-then ! (load ! (from ! (stop !)) (look ! 26 refl)) (no-more !)))) (λ c said ok-c. move ! (2 ∷ []) $ drop ! $
             land ! (from ! (stop !)) (init ! 24 refl (EL.lawful Y.the-type Y′.the-laws 𝓤 H A W tt .typed c _ ok-c .0)) $
-            nothing ! $ calls-some ! fm (OfRemoval 𝓤 H A mem run) known-of-removal (to-of-removal 𝓤 H A mem run c) (‵ ftrue) (‵ ftrue) O.the-row (OfRemovalSaid 𝓤 H A mem run c) machO (λ w v. EL.tells O.the-type O′.the-laws w (v ∷ []))
-            (goes-of-removal 𝓤 H A mem run c W ok-c) (of-removal-is 𝓤 H A mem run c W) (and-then ! (load ! (from ! (stop !)) (look ! 25 refl)) (no-more !)) (λ w line ok-w. drop ! $
+            nothing ! $ calls-some ! fm (OfChange 𝓤 H A mem run removed) known-of-removal (to-of-change 𝓤 H A mem run removed c) (‵ ftrue) (‵ ftrue) O.the-row (OfChangeSaid 𝓤 H A mem run removed c) machO (λ w v. EL.tells O.the-type O′.the-laws w (v ∷ []))
+            (goes-of-change 𝓤 H A mem run removed c W ok-c) (of-change-is 𝓤 H A mem run removed c W) (and-then ! (load ! (from ! (stop !)) (look ! 25 refl)) (no-more !)) (λ w line ok-w. drop ! $
             land ! (from ! (stop !)) (init ! 22 refl (EL.lawful O.the-type O′.the-laws 𝓤 H A W tt .typed w _ ok-w .0)) $
             assigns-last ! (of-opd ! (load ! (from ! (stop !)) (look ! 22 refl))) (from ! (stop !)) (init ! 20 refl (EL.lawful O.the-type O′.the-laws 𝓤 H A W tt .typed w _ ok-w .0)) $ exec ! C Λ E mir.t-2 (atRet E (Post (entry.Remove id size) ok-e)) $
             finish (entry.Remove id size) ok-e w (remove ys id .1) (obeys-removal rest ys w id size c said line) (length-remove ys id) ok-w
@@ -308,8 +310,8 @@ module _ {M : Type 1} (𝓤 : URA M) (H : Heap 𝓤) (A : Atoms 𝓤) (W : Given
         body l₀ l₁ l₂ l₃ l₄ l₅ l₆ l₇ l₈ l₉ l₁₀ l₁₁ l₁₂ l₁₃ l₁₄ l₁₅ l₁₆ l₁₇ l₁₈ l₁₉ l₂₀ l₂₁ l₂₂ l₂₃ l₂₄ l₂₅ e ok-e))))))))))))))))))))))))))
 
 module _ {M : Type 1} (𝓤 : URA M) (H : Heap 𝓤) (A : Atoms 𝓤) (W : Given 𝓤 H A) (mem : Memory → SProp 𝓤) (run : Routine → Fun 𝓤) (𝓣 : Tables 𝓤 H)
-    (known-frame-at : Triple 𝓤 (𝓣 .C #frame-at) (FrameAt 𝓤 H A mem run)) (known-receive : Triple 𝓤 (𝓣 .C #table·receive) (Receive 𝓤 H A mem run)) (known-admit : Triple 𝓤 (𝓣 .C #table·admit) (Admit 𝓤 H A mem run)) (known-remove : Triple 𝓤 (𝓣 .C #table·remove) (Remove 𝓤 H A mem run))
-    (known-of-receipt : Triple 𝓤 (𝓣 .C #outcome-of-receipt) (OfReceipt 𝓤 H A mem run)) (known-of-admission : Triple 𝓤 (𝓣 .C #outcome-of-admission) (OfAdmission 𝓤 H A mem run)) (known-of-removal : Triple 𝓤 (𝓣 .C #outcome-of-removal) (OfRemoval 𝓤 H A mem run)) where
+    (known-frame-at : Triple 𝓤 (𝓣 .C #frame-at) (FrameAt 𝓤 H A mem run)) (known-receive : Triple 𝓤 (𝓣 .C #table·receive) (Receive 𝓤 H A mem run)) (known-admit : Triple 𝓤 (𝓣 .C #table·admit) (Changer 𝓤 H A mem run admit)) (known-remove : Triple 𝓤 (𝓣 .C #table·remove) (Changer 𝓤 H A mem run remove))
+    (known-of-receipt : Triple 𝓤 (𝓣 .C #outcome-of-receipt) (OfReceipt 𝓤 H A mem run)) (known-of-admission : Triple 𝓤 (𝓣 .C #outcome-of-admission) (OfChange 𝓤 H A mem run admitted)) (known-of-removal : Triple 𝓤 (𝓣 .C #outcome-of-removal) (OfChange 𝓤 H A mem run removed)) where
   this-walks : Walks 𝓤 H A this.ended stayed (WpFn 𝓤 H (𝓣 .C) (𝓣 .Λ) code.function) (this.clauses 𝓤 H A mem run)
   this-walks = walked 𝓤 H A this.ended stayed (this.clauses 𝓤 H A mem run) (WpFn 𝓤 H (𝓣 .C) (𝓣 .Λ) code.function) (λ κs. (slice-vals, (slice-vals, (uint-vals w64, (EL.vals I.the-type I′.the-laws, tt)))))
       (λ κs. (mut-slice-tells (named 0) (κs .0) T.the-row, (shr-slice-tells (named 1) (κs .1 .0) u8, (uint-tells w64, (EL.tells I.the-type I′.the-laws, tt)))))
@@ -328,8 +330,8 @@ obey-spec 𝓤 H 𝓜 𝓖 𝓡 =
     (this-meets 𝓤 H (𝓖 .A) (givenOf 𝓤 H 𝓜 𝓖) (𝓜 .mem) (𝓡 .run) (tablesOf 𝓤 H 𝓜 (tables 𝓤 H 𝓜 𝓡 code.env))
     (cited 𝓤 H (FrameAt 𝓤 H (𝓖 .A) (𝓜 .mem) (𝓡 .run)) 𝓜 𝓡 code.env #frame-at frame-at-def.routine code.calls-listing·chunk·frame-at (frame-at-thm.met 𝓤 H 𝓜 𝓖 𝓡))
     (cited 𝓤 H (Receive 𝓤 H (𝓖 .A) (𝓜 .mem) (𝓡 .run)) 𝓜 𝓡 code.env #table·receive receive-def.routine code.calls-table·receive (receive-thm.met 𝓤 H 𝓜 𝓖 𝓡))
-    (cited 𝓤 H (Admit 𝓤 H (𝓖 .A) (𝓜 .mem) (𝓡 .run)) 𝓜 𝓡 code.env #table·admit admit-def.routine code.calls-table·admit (admit-thm.met 𝓤 H 𝓜 𝓖 𝓡))
-    (cited 𝓤 H (Remove 𝓤 H (𝓖 .A) (𝓜 .mem) (𝓡 .run)) 𝓜 𝓡 code.env #table·remove remove-def.routine code.calls-table·remove (remove-thm.met 𝓤 H 𝓜 𝓖 𝓡))
+    (cited 𝓤 H (Changer 𝓤 H (𝓖 .A) (𝓜 .mem) (𝓡 .run) admit) 𝓜 𝓡 code.env #table·admit admit-def.routine code.calls-table·admit (admit-thm.met 𝓤 H 𝓜 𝓖 𝓡))
+    (cited 𝓤 H (Changer 𝓤 H (𝓖 .A) (𝓜 .mem) (𝓡 .run) remove) 𝓜 𝓡 code.env #table·remove remove-def.routine code.calls-table·remove (remove-thm.met 𝓤 H 𝓜 𝓖 𝓡))
     (cited 𝓤 H (OfReceipt 𝓤 H (𝓖 .A) (𝓜 .mem) (𝓡 .run)) 𝓜 𝓡 code.env #outcome-of-receipt outcome-of-receipt-def.routine code.calls-listing·chunk·outcome-of-receipt (outcome-of-receipt-thm.met 𝓤 H 𝓜 𝓖 𝓡))
-    (cited 𝓤 H (OfAdmission 𝓤 H (𝓖 .A) (𝓜 .mem) (𝓡 .run)) 𝓜 𝓡 code.env #outcome-of-admission outcome-of-admission-def.routine code.calls-listing·chunk·outcome-of-admission (outcome-of-admission-thm.met 𝓤 H 𝓜 𝓖 𝓡))
-    (cited 𝓤 H (OfRemoval 𝓤 H (𝓖 .A) (𝓜 .mem) (𝓡 .run)) 𝓜 𝓡 code.env #outcome-of-removal outcome-of-removal-def.routine code.calls-listing·chunk·outcome-of-removal (outcome-of-removal-thm.met 𝓤 H 𝓜 𝓖 𝓡)))
+    (cited 𝓤 H (OfChange 𝓤 H (𝓖 .A) (𝓜 .mem) (𝓡 .run) admitted) 𝓜 𝓡 code.env #outcome-of-admission outcome-of-admission-def.routine code.calls-listing·chunk·outcome-of-admission (outcome-of-admission-thm.met 𝓤 H 𝓜 𝓖 𝓡))
+    (cited 𝓤 H (OfChange 𝓤 H (𝓖 .A) (𝓜 .mem) (𝓡 .run) removed) 𝓜 𝓡 code.env #outcome-of-removal outcome-of-removal-def.routine code.calls-listing·chunk·outcome-of-removal (outcome-of-removal-thm.met 𝓤 H 𝓜 𝓖 𝓡)))
