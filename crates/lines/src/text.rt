@@ -1,4 +1,4 @@
-// Text put into a buffer at a place. Each call answers the place after what it put.
+// Text put into a buffer at a place. A call from outside this file is answered the place after it.
 use presentation::Kind;
 ghost use mathlib.Core.Path.{_≡_};
 ghost use Prim.Native.Nat.{_+_, _/_, _%_, _≤_, _<_};
