@@ -110,7 +110,7 @@ module _ (later : List ℕ) (room : ℕ) where
       append-assoc (r .text) (lineText (next (r .records)) line) _
       ∙ ap (λ (text : List ℕ). r .text ++ text) (sym (listed-more (r .rest) later (r .table) (r .records) line rest t p))
 
-  pub turn-whole : (r : Run) → whole later (turn room r) ≡ whole later r
+  turn-whole : (r : Run) → whole later (turn room r) ≡ whole later r
   unfolding turn
   turn-whole r = go (roomy room (length (r .text)))
     where
@@ -118,7 +118,7 @@ module _ (later : List ℕ) (room : ℕ) where
       go true = step-turn r (stepOf (r .rest) (r .table)) refl
       go false = refl
 
-  pub turns-whole : (k : ℕ) (r : Run) → whole later (turns k room r) ≡ whole later r
+  turns-whole : (k : ℕ) (r : Run) → whole later (turns k room r) ≡ whole later r
   unfolding turns
   turns-whole zero r = refl
   turns-whole (suc k) r = go (r .going) (turns-whole k (turn room r))

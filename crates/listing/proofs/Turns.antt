@@ -16,7 +16,7 @@ use Rattle.lines.specs.Lines.{Line, admitted, removed, refused, lineText}
 use Rattle.listing.specs.Listing.{changeLine, frameLine, stepBy, stepOf, next}
 use Rattle.lines.specs.Writing.{roomy}
 use Rattle.listing.specs.Chunks.{Run, stopped, turnBy, turn, turns, chunked, usedOf, ChunkListed}
-use Rattle.listing.specs.Private.{lineAfter, tableAfter, passed, sizeAhead, putWhole, putNext}
+use Rattle.listing.specs.Private.{lineAfter, tableAfter, halted, passed, sizeAhead, putWhole, putNext}
 use Rattle.lines.proofs.Puts.{sets-append}
 use Rattle.listing.proofs.Obeying.{length-admit, length-remove, length-receive}
 
@@ -70,6 +70,7 @@ module _ (chunk : List ℕ) (t : Table) (n : ℕ) (d : List ℕ) where
         records = ap (λ (x : Run). x .records) whole;
         table = ap (λ (x : Run). x .table) whole;
         out = ap outOf whole;
+        ended = e;
         at-within = omega arith;
         put-within = u .put;
       }
@@ -91,18 +92,20 @@ module _ (chunk : List ℕ) (t : Table) (n : ℕ) (d : List ℕ) where
     abbrev puts : Bool → Front → Line → Progress × List ℕ
     puts b f line = putNext (ahead b f) (lineText (next (r .records)) line) p (outOf r)
 
-    pub record Turned (b : Bool) (f : Front) (line : Line) : Type 0 where
-      pub progress : puts b f line .0 ≡ progressOf (after b f)
-      pub out : puts b f line .1 ≡ outOf (after b f)
-      pub table : tableAfter (r .table) (stepBy (ahead b f) (r .rest) (r .table)) ≡ after b f .table
-      pub shape : Shape k (after b f)
-      pub fits : p .at + sizeAhead (ahead b f) ≤ length chunk
+    -- a turn: what is put, the table that is left and the size of the record are those of the run afterwards
+    record Turned (given : Progress × List ℕ) (left : Table) (size : ℕ) (then : Run) : Type 0 where
+      progress : given .0 ≡ progressOf then
+      out : given .1 ≡ outOf then
+      table : left ≡ then .table
+      shape : Shape k then
+      fits : p .at + size ≤ length chunk
 
     halts : Shape k (stopped r)
     halts = record { rest = u .rest; within = u .within; table = u .table; fuel = λ e. absurd (subst T (sym e) tt); records = u .records }
 
-    in-chunk : p .at + 0 ≤ length chunk
-    in-chunk = omega arith
+    -- nothing is listed, and the run stops
+    stops : Turned (halted p, outOf r) (r .table) 0 (stopped r)
+    stops = record { progress = refl; out = refl; table = refl; shape = halts; fits = omega arith }
 
     -- a record that is whole
     module _ (size : ℕ) (w : Within (r .rest) size) (line : Line) (z : Table) (same : length z ≡ length (r .table)) (roomy-here : roomy (length d) (length (r .text)) ≡ true) (on : r .going ≡ true) where
@@ -125,15 +128,15 @@ module _ (chunk : List ℕ) (t : Table) (n : ℕ) (d : List ℕ) where
       unfolding putWhole
       put-is = rw roomy-there
 
-      pub whole-progress : putWhole size text p (outOf r) .0 ≡ progressOf gone
+      whole-progress : putWhole size text p (outOf r) .0 ≡ progressOf gone
       whole-progress = ap (λ (x : Progress × List ℕ). x .0) put-is ∙ (λ i. record { at = used i; put = sym (length-append (r .text) text) i; records = next (r .records); going = true })
 
-      pub whole-out : putWhole size text p (outOf r) .1 ≡ outOf gone
+      whole-out : putWhole size text p (outOf r) .1 ≡ outOf gone
       whole-out =
           let here : length (r .text) ≡ 0 + length (r .text) = omega arith in
           ap (λ (x : Progress × List ℕ). x .1) put-is ∙ ap (λ (m : ℕ). sets (outOf r) m text) here ∙ sym (sets-append (r .text) text d 0)
 
-      pub whole-shape : Shape k gone
+      whole-shape : Shape k gone
       whole-shape =
           record {
             rest = ap (drop size) (u .rest) ∙ drop-drop size (p .at) chunk ∙ ap (λ (m : ℕ). drop m chunk) used;
@@ -143,17 +146,20 @@ module _ (chunk : List ℕ) (t : Table) (n : ℕ) (d : List ℕ) where
             records = omega arith;
           }
 
-      pub whole-fits : p .at + size ≤ length chunk
-      whole-fits = omega (arith, w .1, u .within)
+      passes : Turned (putWhole size text p (outOf r)) z size gone
+      passes = record { progress = whole-progress; out = whole-out; table = refl; shape = whole-shape; fits = omega (arith, w .1, u .within) }
 
-    turned : (b : Bool) → roomy (length d) (length (r .text)) ≡ b → (f : Front) → Sized (r .rest) f → r .going ≡ true → Turned b f (lineAfter (stepBy (ahead b f) (r .rest) (r .table)))
-    turned false e f s on = record { progress = refl; out = refl; table = refl; shape = halts; fits = in-chunk }
-    turned true e end s on = record { progress = refl; out = refl; table = refl; shape = halts; fits = in-chunk }
-    turned true e (ended m) s on = record { progress = refl; out = refl; table = refl; shape = halts; fits = in-chunk }
-    turned true e (skipped m size) s on = record { progress = whole-progress size s (refused m) (r .table) refl e on; out = whole-out size s (refused m) (r .table) refl e on; table = refl; shape = whole-shape size s (refused m) (r .table) refl e on; fits = whole-fits size s (refused m) (r .table) refl e on }
-    turned true e (arrival L size) s on = record { progress = whole-progress size s (frameLine (receive (r .table) (frameOf (r .rest) size) L .0 .number) (receive (r .table) (frameOf (r .rest) size) L .0)) (receive (r .table) (frameOf (r .rest) size) L .1) (length-receive (r .table) (frameOf (r .rest) size) L) e on; out = whole-out size s (frameLine (receive (r .table) (frameOf (r .rest) size) L .0 .number) (receive (r .table) (frameOf (r .rest) size) L .0)) (receive (r .table) (frameOf (r .rest) size) L .1) (length-receive (r .table) (frameOf (r .rest) size) L) e on; table = refl; shape = whole-shape size s (frameLine (receive (r .table) (frameOf (r .rest) size) L .0 .number) (receive (r .table) (frameOf (r .rest) size) L .0)) (receive (r .table) (frameOf (r .rest) size) L .1) (length-receive (r .table) (frameOf (r .rest) size) L) e on; fits = whole-fits size s (frameLine (receive (r .table) (frameOf (r .rest) size) L .0 .number) (receive (r .table) (frameOf (r .rest) size) L .0)) (receive (r .table) (frameOf (r .rest) size) L .1) (length-receive (r .table) (frameOf (r .rest) size) L) e on }
-    turned true e (admission id size) s on = record { progress = whole-progress size s (changeLine (admit (r .table) id .0) admitted) (admit (r .table) id .1) (length-admit (r .table) id) e on; out = whole-out size s (changeLine (admit (r .table) id .0) admitted) (admit (r .table) id .1) (length-admit (r .table) id) e on; table = refl; shape = whole-shape size s (changeLine (admit (r .table) id .0) admitted) (admit (r .table) id .1) (length-admit (r .table) id) e on; fits = whole-fits size s (changeLine (admit (r .table) id .0) admitted) (admit (r .table) id .1) (length-admit (r .table) id) e on }
-    turned true e (removal id size) s on = record { progress = whole-progress size s (changeLine (remove (r .table) id .0) removed) (remove (r .table) id .1) (length-remove (r .table) id) e on; out = whole-out size s (changeLine (remove (r .table) id .0) removed) (remove (r .table) id .1) (length-remove (r .table) id) e on; table = refl; shape = whole-shape size s (changeLine (remove (r .table) id .0) removed) (remove (r .table) id .1) (length-remove (r .table) id) e on; fits = whole-fits size s (changeLine (remove (r .table) id .0) removed) (remove (r .table) id .1) (length-remove (r .table) id) e on }
+    turned : (b : Bool) → roomy (length d) (length (r .text)) ≡ b → (f : Front) → Sized (r .rest) f → r .going ≡ true
+        → Turned (puts b f (lineAfter (stepBy (ahead b f) (r .rest) (r .table)))) (tableAfter (r .table) (stepBy (ahead b f) (r .rest) (r .table))) (sizeAhead (ahead b f)) (after b f)
+    turned false e f s on = stops
+    turned true e end s on = stops
+    turned true e (ended m) s on = stops
+    turned true e (skipped m size) s on = passes size s (refused m) (r .table) refl e on
+    turned true e (arrival L size) s on =
+        let received = receive (r .table) (frameOf (r .rest) size) L in
+        passes size s (frameLine (received .0 .number) (received .0)) (received .1) (length-receive (r .table) (frameOf (r .rest) size) L) e on
+    turned true e (admission id size) s on = passes size s (changeLine (admit (r .table) id .0) admitted) (admit (r .table) id .1) (length-admit (r .table) id) e on
+    turned true e (removal id size) s on = passes size s (changeLine (remove (r .table) id .0) removed) (remove (r .table) id .1) (length-remove (r .table) id) e on
 
   picks : (b : Bool) → b ≡ true → (x y z : Run) → cond b x y ≡ z → x ≡ z
   picks true e x y z h = h
@@ -173,7 +179,7 @@ module _ (chunk : List ℕ) (t : Table) (n : ℕ) (d : List ℕ) where
     abbrev front : Front
     front = cond b (entryOf (r .rest)) end
 
-    is-turned : Turned k r (u .shape) b (entryOf (r .rest)) (lineAfter (stepBy front (r .rest) (r .table)))
+    is-turned : Turned k r (u .shape) (puts k r (u .shape) b (entryOf (r .rest)) (lineAfter (stepBy front (r .rest) (r .table)))) (tableAfter (r .table) (stepBy front (r .rest) (r .table))) (sizeAhead front) onward
     is-turned = turned k r (u .shape) b refl (entryOf (r .rest)) (sized (r .rest)) on
 
     module _ (f : Front) (at-front : f ≡ cond b (entryOf (drop (here .at) chunk)) end) where

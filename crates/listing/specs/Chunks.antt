@@ -60,5 +60,7 @@ pub record ChunkListed (chunk : List ℕ) (t : Table) (n : ℕ) (d : List ℕ) (
   pub records : r .records ≡ chunked chunk t n (length d) .records
   pub table : t′ ≡ chunked chunk t n (length d) .table
   pub out : d′ ≡ sets d 0 (chunked chunk t n (length d) .text)
+  -- `going` is the loop's own, and what is answered has ended
+  pub ended : r .going ≡ false
   pub at-within : r .at ≤ length chunk
   pub put-within : r .put ≤ length d

@@ -136,7 +136,7 @@ module _ {M : Type 1} (𝓤 : URA M) (H : Heap 𝓤) (A : Atoms 𝓤) (mem : Mem
         Back v r = sep 𝓤 (mean 𝓤 H A (((Tokens 𝓤 ν₁ ν₂ ⊛ ‵ (finally T.the-row δ₁ table-after)) ⊛ ‵ (finally u8 δ₂ out-after)) ⊛ PartAlive 𝓤 H A mem run κ q y)) (fact 𝓤 (ListSaid r × Is D.the-row r (v ∷ [])))
 
         again-said : (r : Progress) (zs : List Record) (es : List ℕ) → ChunkListed (y .now) ys n ds r zs es → ListSaid r
-        again-said r zs es h = record { at = h .at; put = h .put; records = h .records; table = refl; out = refl; at-within = h .at-within; put-within = h .put-within }
+        again-said r zs es h = record { at = h .at; put = h .put; records = h .records; table = refl; out = refl; ended = h .ended; at-within = h .at-within; put-within = h .put-within }
 
         list-chunk-is : (v : Val) → ent 𝓤 (ListChunk .post to-list-chunk v) (H .⇛ (ex 𝓤 (Back v)))
         list-chunk-is v =
