@@ -5,7 +5,7 @@ use mathlib.Core.List.{List}
 use lib.Dec.{eqb, ltb}
 use lib.IntN.{ℤ, pos, negsuc, _+ℤ_}
 use lib.ListN.{length}
-use Rattle.wire.specs.Numbers.{numberAt}
+use Rattle.frame.specs.Reading.{firstQuadlet}
 use Rattle.presentation.specs.declared.Kind.{Kind}
 use Rattle.presentation.specs.declared.Kind.the-variants.{None, Cut, Outside, Late, Ahead}
 use Rattle.presentation.specs.declared.Timing.{Timing}
@@ -20,7 +20,7 @@ abbrev pub sourceStamp : List ℕ → Stamp
 sourceStamp payload =
     cond (eqb (length payload) 0) Absent
     (cond (ltb (length payload) 4) Short
-    (Given (numberAt 0 4 payload)))
+    (Given (firstQuadlet payload)))
 
 -- where SPH is 0, T is the AVTP timestamp if tv is 1; where SPH is 1, tv is not read
 abbrev pub stampOf : Bool → Bool → ℕ → List ℕ → Stamp

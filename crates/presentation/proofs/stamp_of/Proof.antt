@@ -1,10 +1,9 @@
-use mathlib.Core.Path.{ap, _∙_}
+use mathlib.Core.Path.{ap}
 use native.Mathlib.Omega.{arith}
 use denote.Ref.{now}
 use lib.ListN.{length}
 use borrow.Author.Tests.{eq-eqb, ne-eqb, lt-ltb, le-ltb}
 use borrow.Author.Needs.{needs}
-use Rattle.wire.proofs.Numbers.{there}
 use Rattle.presentation.specs.declared.Stamp.the-variants.{Given}
 use Rattle.presentation.proofs.stamp_of.Statement.{statement}
 use Rattle.presentation.proofs.stamp_of.Tie as tie
@@ -25,7 +24,7 @@ returns-3 c =
     let x = c .before in
     let payload = now (x .before .before .before .before .args .payload) in
     rw (x .before .before .if1 .taken, ne-eqb _ 0 (x .before .if2 .left), le-ltb (length payload) 4 (omega arith))
-    (ap Given (c .first-quadlet .ensures ∙ there 0 4 payload (omega arith)))
+    (ap Given (c .first-quadlet .ensures))
 
 returns-4 : tie.Need-returns-4
 returns-4 c = rw (c .before .if1 .left, c .if4 .taken)
