@@ -10,7 +10,8 @@ use borrow.Author.Tests.{leb-true, not-true, not-false}
 use lib.ListN.{length, take, getD, set, length-append}
 use lib.Seq.{sets, take-suc, set-comm, length-take-le, length-sets}
 use Rattle.lines.specs.declared.Written.the-variants.{UpTo, NoRoom}
-use Rattle.lines.specs.Writing.{Put, lineRoom, roomy, writing, told}
+use Rattle.lines.specs.Writing.{lineRoom, roomy, writing, told}
+use Rattle.lines.specs.Private.{Put}
 
 pub sets-append : (s t d : List ℕ) (i : ℕ) → sets d i (s ++ t) ≡ sets (sets d i s) (i + length s) t
 sets-append [] t d i = ap (λ (k : ℕ). sets d k t) (sym (add-zero i))

@@ -1,6 +1,5 @@
 -- Text put into a buffer that a caller lends.
 use Prim.Native.Nat.{ℕ, _+_}
-use mathlib.Core.Path.{_≡_}
 use mathlib.Core.Bool.{Bool, true, false, cond}
 use mathlib.Core.List.{List}
 use lib.Dec.{leb}
@@ -8,11 +7,6 @@ use lib.ListN.{length}
 use lib.Seq.{sets}
 use Rattle.lines.specs.declared.Written.{Written}
 use Rattle.lines.specs.declared.Written.the-variants.{UpTo, NoRoom}
-
--- a text put into a buffer d at a place: d′ is the buffer afterwards, as d but for the text, and end the place after the text
-pub record Put (d : List ℕ) (at : ℕ) (text d′ : List ℕ) (end : ℕ) : Type 0 where
-  pub stored : d′ ≡ sets d at text
-  pub ended : end ≡ at + length text
 
 -- the room that a line is given; no line has more bytes
 abbrev pub lineRoom : ℕ

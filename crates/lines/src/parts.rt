@@ -10,7 +10,8 @@ ghost use lib.ListN.{length};
 ghost use Rattle.frame.specs.Refusals.{numberOf};
 ghost use Rattle.lines.specs.Text.{decimal};
 ghost use Rattle.lines.specs.Lines.{endLine, refused, frame, flagsText, timingText, lineOf, lineText};
-ghost use Rattle.lines.specs.Writing.{Put, lineRoom};
+ghost use Rattle.lines.specs.Writing.{lineRoom};
+ghost use Rattle.lines.specs.Private.{Put};
 
 fn put_flags(out: &mut [u8], at: usize, flags: Flags) -> usize
     requires { ⌜ at + 47 ≤ length (now out) ⌝ }

@@ -7,7 +7,7 @@ ghost use lib.ListN.{length};
 ghost use lib.Seq.{sets};
 ghost use Rattle.lines.specs.Text.{decimal, signed};
 ghost use Rattle.lines.specs.Lines.{flagWord, kindWord};
-ghost use Rattle.lines.specs.Writing.{Put};
+ghost use Rattle.lines.specs.Private.{Put};
 
 pub(crate) fn put(out: &mut [u8], at: usize, text: &[u8]) -> usize
     requires { ⌜ at + length (now text) ≤ length (now out) ⌝ }
