@@ -1,4 +1,4 @@
--- A local array that is lent as a `&mut [T]` for a call, and is an array again. It says nothing of the crate, and can be copied as it stands.
+-- A local array that is lent as a `&mut [T]` for a call, and is an array again. It says nothing of the crate.
 --     calls-with-array     from the array's own cell and what else goes to the callee (`more`) at the head of the context; they come back as the array's cell at zs and what the callee hands back (`left`). While the operands are read the first two entries are the callee's `pre` and the lender's part, so every other entry stands where it stood
 -- T owns only facts (`makes`). The callee's contract says φ of what it returns (`Calls.antt`'s `calls-some`) and the slice's last list zs.
 -- Assumes `Given`.
