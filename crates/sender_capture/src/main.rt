@@ -67,7 +67,7 @@ fn put_admission() {
     );
 }
 
-// Kind 1: a frame of at most 246 bytes, so that one byte holds the record's length.
+// Kind 1: a frame of at most 245 bytes, so that one byte holds the record's length.
 fn put_arrival(arrival_time: u64, frame: &[u8]) {
     let n = frame.len();
     if n > 245 {
@@ -79,7 +79,7 @@ fn put_arrival(arrival_time: u64, frame: &[u8]) {
     io::write_all(STDOUT_FILENO, frame);
 }
 
-// A frame with this many blocks of eight bytes, sent at a time and due a little later.
+// A frame with this many blocks of eight bytes, due at a time and arriving at half of it.
 fn send(sender: Sender, time: u32, blocks: usize) -> Sender
     requires { ⌜ blocks ≤ 15 ⌝ }
 {
