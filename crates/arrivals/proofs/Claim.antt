@@ -10,10 +10,9 @@ use lib.Dec.{eqb}
 use lib.ListN.{length, getElem?, length-set}
 use borrow.Author.Tests.{eqb-true, eq-eqb}
 use Rattle.stream.specs.declared.Record.{Record}
-use Rattle.stream.specs.Records.{admitted}
 use Rattle.stream.specs.Answers.{after, idOf}
 use Rattle.table.specs.Table.{Table, holds, place, at, only, numberWith, receiveBy, receive, receiveAlone}
-use Rattle.arrivals.specs.Arrivals.{Arrival, run, runAlone, isAccepted, ofStream, OneStream, StreamRecord, those, answersTo, replay, Counted, Claim}
+use Rattle.arrivals.specs.Arrivals.{Arrival, run, runAlone, isAccepted, ofStream, OneStream, StreamRecord, those, answersTo, replay, WithinCap, Counted, Claim}
 use Rattle.arrivals.proofs.Places.{and-both, stream-place, place-stream, one-stream, accepted, verdict, refused-verdict, accepted-number, number-place, number-any}
 use Rattle.arrivals.proofs.Directed.{directed, run-directed, one-answer-each, length-kept, place-kept, refused-at, as-replay, exchange-answers, exchange-table}
 use Rattle.arrivals.proofs.Counts.{replay-counted}
@@ -81,13 +80,13 @@ module _ (t : Table) where
       let e = one-stream t (idOf (b .frame)) (idOf (a .frame)) i (y .0) (x .0) (y .1) (x .1) in
       h (idOf (a .frame), of-stream t a (idOf (a .frame)) (accepted-number t a i p) refl, of-stream t b (idOf (a .frame)) (accepted-number t b i q) e)
 
-  stream-counts : (l : List Arrival) (k i : ℕ) (e : Record) → StreamRecord t k i (admitted k) → getElem? ((directed (verdict t) t l) .1) i ≡ some e
-      → Counted e (answersTo (ofStream t k) l ((directed (verdict t) t l) .0))
-  stream-counts l k i e x p =
-      let q = stream-replay t k i (admitted k) x l in
+  stream-counts : (l : List Arrival) (k i : ℕ) (r e : Record) → StreamRecord t k i r → WithinCap (r .counts) → getElem? ((directed (verdict t) t l) .1) i ≡ some e
+      → Counted r e (answersTo (ofStream t k) l ((directed (verdict t) t l) .0))
+  stream-counts l k i r e x h p =
+      let q = stream-replay t k i r x l in
       let w = q .1 in
-      let z : e ≡ (replay (admitted k) (those (ofStream t k) l)) .1 = cc in
-      rw (z, q .0) (replay-counted k (those (ofStream t k) l))
+      let z : e ≡ (replay r (those (ofStream t k) l)) .1 = cc in
+      rw (z, q .0) (replay-counted r (those (ofStream t k) l) h)
 
   directed-claim : Claim t (directed (verdict t) t)
   directed-claim =

@@ -4,14 +4,14 @@ use mathlib.Core.Path.{_≡_, refl, ap, _∙_}
 use mathlib.Core.Bool.{Bool, true, false, cond}
 use mathlib.Core.List.{List, [], _∷_}
 use native.Mathlib.Omega.{arith}
-use lib.Dec.{ltb, lit≤}
+use lib.Dec.{ltb}
 use lib.ListN.{length}
 use borrow.Author.Tests.{ltb-true, ltb-false}
 use Rattle.stream.specs.declared.Record.{Record}
-use Rattle.stream.specs.Records.{admitted, bump}
+use Rattle.stream.specs.Records.{bump}
 use Rattle.stream.specs.Answers.{Answer, answerOf, after}
-use Rattle.stream.proofs.Laws.{admitted-counts, after-frames, after-sequence-breaks, after-block-breaks, after-format-changes, after-mr-changes}
-use Rattle.arrivals.specs.Arrivals.{Arrival, replay, howMany, Counted}
+use Rattle.stream.proofs.Laws.{after-frames, after-sequence-breaks, after-block-breaks, after-format-changes, after-mr-changes}
+use Rattle.arrivals.specs.Arrivals.{Arrival, replay, howMany, WithinCap, Counted}
 
 abbrev cap : ℕ
 cap = 4_294_967_295
@@ -45,24 +45,19 @@ module _ (c : Record → ℕ) (f : Answer → Bool) (law : (r : Record) (frame :
       counted (after r (a .frame) (a .time)) l (rw q (bump-le b (c r) h))
       ∙ rw q (bump-more b (c r) (howMany f ((replay (after r (a .frame) (a .time)) l) .0)) h)
 
-  -- from no count
-  from-zero : (r : Record) → c r ≡ 0 → (l : List Arrival) → c ((replay r l) .1) ≡ min cap (howMany f ((replay r l) .0))
-  from-zero r z l = counted r l (rw z (lit≤ tt)) ∙ rw z (omega arith)
-
 howMany-all : (xs : List Answer) → howMany (λ x. true) xs ≡ length xs
 unfolding howMany
 howMany-all [] = refl
 howMany-all (x ∷ xs) = ap suc (howMany-all xs)
 
-pub replay-counted : (k : ℕ) (l : List Arrival) → Counted ((replay (admitted k) l) .1) ((replay (admitted k) l) .0)
-replay-counted k l =
-    let none = admitted-counts k in
+pub replay-counted : (r : Record) (l : List Arrival) → WithinCap (r .counts) → Counted r ((replay r l) .1) ((replay r l) .0)
+replay-counted r l h =
     record {
       frames =
-          from-zero (λ r. r .counts .frames) (λ x. true) after-frames (admitted k) (ap (λ c. c .frames) none) l
-          ∙ ap (min cap) (howMany-all ((replay (admitted k) l) .0));
-      sequence-breaks = from-zero (λ r. r .counts .«sequence_breaks») (λ x. x .flags .sequence) after-sequence-breaks (admitted k) (ap (λ c. c .«sequence_breaks») none) l;
-      block-breaks = from-zero (λ r. r .counts .«block_breaks») (λ x. x .flags .block) after-block-breaks (admitted k) (ap (λ c. c .«block_breaks») none) l;
-      format-changes = from-zero (λ r. r .counts .«format_changes») (λ x. x .flags .format) after-format-changes (admitted k) (ap (λ c. c .«format_changes») none) l;
-      mr-changes = from-zero (λ r. r .counts .«mr_changes») (λ x. x .flags .mr) after-mr-changes (admitted k) (ap (λ c. c .«mr_changes») none) l;
+          counted (λ r. r .counts .frames) (λ x. true) after-frames r l (h .0)
+          ∙ ap (λ (n : ℕ). min cap (r .counts .frames + n)) (howMany-all ((replay r l) .0));
+      sequence-breaks = counted (λ r. r .counts .«sequence_breaks») (λ x. x .flags .sequence) after-sequence-breaks r l (h .1);
+      block-breaks = counted (λ r. r .counts .«block_breaks») (λ x. x .flags .block) after-block-breaks r l (h .2);
+      format-changes = counted (λ r. r .counts .«format_changes») (λ x. x .flags .format) after-format-changes r l (h .3);
+      mr-changes = counted (λ r. r .counts .«mr_changes») (λ x. x .flags .mr) after-mr-changes r l (h .4);
     }

@@ -8,9 +8,9 @@ use borrow.Author.Tests.{ltb-false, le-ltb, not-false}
 use lib.ListN.{length, drop, set, length-set}
 use Rattle.frame.specs.declared.layout.Fields.{Fields}
 use Rattle.frame.specs.Layout.{fieldsOf}
-use Rattle.frame.specs.Refusals.{firstOf}
+use Rattle.refusal.specs.Refusals.{firstOf}
 use Rattle.frame.specs.Checks.{refusal}
-use Rattle.frame.proofs.First.{clear, orElse}
+use Rattle.refusal.proofs.First.{clear, orElse}
 use Rattle.writer.specs.declared.Sender.{Sender}
 use Rattle.writer.specs.Frames.{frameOf}
 use Rattle.writer.specs.Writing.{writeRefusal, next, outcome, writing}

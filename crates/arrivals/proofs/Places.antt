@@ -10,7 +10,7 @@ use lib.Dec.{eqb}
 use lib.ListN.{length, getD, set, getElem?, length-map}
 use lib.Seq.{map-set-same}
 use borrow.Author.Tests.{eqb-true, eq-eqb}
-use Rattle.frame.proofs.First.{both}
+use Rattle.refusal.proofs.First.{both}
 use Rattle.stream.specs.declared.Record.{Record}
 use Rattle.stream.specs.Records.{unused}
 use Rattle.stream.specs.Answers.{Answer, refusedWith, answerOf, after, idOf}

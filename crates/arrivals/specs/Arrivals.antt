@@ -1,5 +1,5 @@
 -- Lists of arrivals, and the one claim about them (document 01, Lists of arrivals).
-use Prim.Native.Nat.{ℕ, zero, suc, _<_, min}
+use Prim.Native.Nat.{ℕ, zero, suc, _+_, _<_, _≤_, min}
 use mathlib.Core.Path.{_≡_}
 use mathlib.Core.Bool.{Bool, true, cond, _&&_}
 use mathlib.Core.List.{List, [], _∷_, _++_}
@@ -7,7 +7,7 @@ use mathlib.Core.Option.{some}
 use lib.Dec.{eqb}
 use lib.ListN.{length, getElem?}
 use Rattle.stream.specs.declared.Record.{Record}
-use Rattle.stream.specs.Records.{admitted}
+use Rattle.stream.specs.declared.Counts.{Counts}
 use Rattle.stream.specs.Answers.{Answer, refusedWith, answerOf, after, idOf}
 use Rattle.table.specs.Table.{Table, numberWith, receive, receiveAlone}
 
@@ -82,21 +82,29 @@ swap zero (x ∷ []) = x ∷ []
 swap zero (x ∷ y ∷ l) = y ∷ x ∷ l
 swap (suc n) (x ∷ l) = x ∷ swap n l
 
--- ---- Counts: how many answers pass a test; the five counts of a record are those of the answers xs, up to 4,294,967,295
+-- ---- Counts: how many answers pass a test; the five counts of a record e are those of the record r before it and of the answers xs, up
+-- to 4,294,967,295
 
 unfoldable pub howMany : (Answer → Bool) → List Answer → ℕ
 howMany f [] = 0
 howMany f (x ∷ xs) = cond (f x) (suc (howMany f xs)) (howMany f xs)
 
-abbrev capped : ℕ → ℕ
-capped n = min 4_294_967_295 n
+abbrev cap : ℕ
+cap = 4_294_967_295
 
-pub record Counted (r : Record) (xs : List Answer) : Type 0 where
-  pub frames : r .counts .frames ≡ capped (length xs)
-  pub sequence-breaks : r .counts .«sequence_breaks» ≡ capped (howMany (λ x. x .flags .sequence) xs)
-  pub block-breaks : r .counts .«block_breaks» ≡ capped (howMany (λ x. x .flags .block) xs)
-  pub format-changes : r .counts .«format_changes» ≡ capped (howMany (λ x. x .flags .format) xs)
-  pub mr-changes : r .counts .«mr_changes» ≡ capped (howMany (λ x. x .flags .mr) xs)
+abbrev capped : ℕ → ℕ
+capped n = min cap n
+
+-- as every record that a caller lends: its counts are 32 bits wide
+abbrev pub WithinCap : Counts → Type 0
+WithinCap c = (c .frames ≤ cap) × (c .«sequence_breaks» ≤ cap) × (c .«block_breaks» ≤ cap) × (c .«format_changes» ≤ cap) × (c .«mr_changes» ≤ cap)
+
+pub record Counted (r e : Record) (xs : List Answer) : Type 0 where
+  pub frames : e .counts .frames ≡ capped (r .counts .frames + length xs)
+  pub sequence-breaks : e .counts .«sequence_breaks» ≡ capped (r .counts .«sequence_breaks» + howMany (λ x. x .flags .sequence) xs)
+  pub block-breaks : e .counts .«block_breaks» ≡ capped (r .counts .«block_breaks» + howMany (λ x. x .flags .block) xs)
+  pub format-changes : e .counts .«format_changes» ≡ capped (r .counts .«format_changes» + howMany (λ x. x .flags .format) xs)
+  pub mr-changes : e .counts .«mr_changes» ≡ capped (r .counts .«mr_changes» + howMany (λ x. x .flags .mr) xs)
 
 -- ---- The claim, of a start table t and of the answers and the table that `go` gives for a list of arrivals
 
@@ -119,9 +127,9 @@ pub record Claim (t : Table) (go : List Arrival → List Answer × Table) : Type
   -- two neighbours that are not both accepted and of one stream change places: each keeps its answer, and every record ends the same
   pub exchange : (before : List Arrival) (a b : Arrival) (rest : List Arrival) → ¬ OneStream t a b
       → go (before ++ b ∷ a ∷ rest) ≡ (swap (length before) ((go (before ++ a ∷ b ∷ rest)) .0), (go (before ++ a ∷ b ∷ rest)) .1)
-  -- from a newly admitted record each count is the number of the stream's accepted frames, or of those with that flag
-  pub counts : (l : List Arrival) (k i : ℕ) (e : Record) → StreamRecord t k i (admitted k) → getElem? ((go l) .1) i ≡ some e
-      → Counted e (answersTo (ofStream t k) l ((go l) .0))
+  -- each count goes up by the number of the stream's accepted frames, or of those with that flag; a newly admitted record has counted nothing
+  pub counts : (l : List Arrival) (k i : ℕ) (r e : Record) → StreamRecord t k i r → WithinCap (r .counts) → getElem? ((go l) .1) i ≡ some e
+      → Counted r e (answersTo (ofStream t k) l ((go l) .0))
 
 -- demand 3: for every start table, and for every record lent alone as a table of one; and the claim leaves nothing open
 pub record ListsOfArrivals : Type 0 where

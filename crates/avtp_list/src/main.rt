@@ -1,14 +1,13 @@
 // Lists captures: the files that the arguments name, one after the other, or standard input.
-use frame::refusal::Refusal;
 use libc::STDERR_FILENO;
 use libc::STDIN_FILENO;
 use libc::STDOUT_FILENO;
-use lines::Outcome;
 use lines::Written;
 use stream::Record;
 ghost use mathlib.Core.Path.{_≡_};
-ghost use Prim.Native.Nat.{_≤_};
-ghost use lib.ListN.{length};
+ghost use Prim.Native.Nat.{_-_, _≤_};
+ghost use lib.ListN.{length, take};
+ghost use Rattle.wire.specs.Numbers.{part};
 
 // What a turn leaves: the table, the records listed, the place of the bytes that are not listed yet and their end, whether there is
 // more to come, and whether reading or writing failed.
@@ -37,6 +36,7 @@ fn input_room() -> [u8; 262144]
 // Moves the bytes from a place on to the front.
 fn move_down(input: &mut [u8], from: usize, have: usize)
     requires { ⌜ (from ≤ have) × (have ≤ length (now input)) ⌝ }
+    ensures { λ _. ⌜ take (have - from) (now (input .exit)) ≡ part from (have - from) (now (input .entry)) ⌝ }
 {
     let mut i = from;
     while i < have {
@@ -166,25 +166,9 @@ fn write_start(out: &mut [u8]) -> bool {
 }
 
 // The bytes that are left at the end, if any, are a record that the capture ends in.
-fn write_cut(out: &mut [u8], records: u64) -> bool {
-    let line = lines::put_record(out, 0, records, Outcome::Refused(Refusal::RecordCut));
-    write_line(line, out)
-}
-
-fn write_end(out: &mut [u8], records: u64) -> bool {
-    let line = lines::put_end(out, 0, records);
-    write_line(line, out)
-}
-
-fn finish(out: &mut [u8], records: u64, left: usize) {
-    if left == 0 {
-        write_end(out, records);
-        return;
-    }
-    let count = std::num::wrapping_add_u64(records, 1);
-    if write_cut(out, count) {
-        write_end(out, count);
-    }
+fn write_ending(out: &mut [u8], records: u64, left: usize) -> bool {
+    let lines = lines::put_ending(out, 0, left > 0, records);
+    write_line(lines, out)
 }
 
 fn start() -> State
@@ -226,7 +210,7 @@ fn list(fd: i32, name: &[u8]) {
     if s.failed {
         return;
     }
-    finish(&mut out, s.records, s.have - s.from);
+    write_ending(&mut out, s.records, s.have - s.from);
 }
 
 fn is_dash(name: &[u8]) -> bool {

@@ -8,7 +8,7 @@ use borrow.Author.Tests.{eqb-true, eqb-false}
 use lib.Dec.{eqb}
 use lib.ListN.{length}
 use Rattle.wire.specs.Numbers.{numberOr0, littleEndianOr0}
-use Rattle.frame.specs.Refusals.{firstOf}
+use Rattle.refusal.specs.Refusals.{firstOf}
 use Rattle.capture.specs.Records.{Front, end, ended, skipped, arrival, admission, removal, sizeOf, kindOf, bodyOf, recordChecks, frontBy, entryOf}
 
 differ : {A : Type 0} (f : Front → ℕ) (x y : Front) → x ≡ y → f x ≡ 0 → f y ≡ 1 → A

@@ -7,7 +7,7 @@ use native.Mathlib.Omega.{arith}
 use borrow.Author.Tests.{lt-ltb, le-ltb, ne-eqb, ltb-false}
 use lib.Dec.{eqb, ltb}
 use lib.ListN.{length}
-use Rattle.frame.specs.Refusals.{firstOf}
+use Rattle.refusal.specs.Refusals.{firstOf}
 use Rattle.capture.specs.Sizes.{Sized, RecordSizes}
 use Rattle.capture.specs.Records.{Front, ended, skipped, lengthOf, kindOf, sizeOf, bodyOf, frameOf, wrongLength, unknownKind, frontBy, entryOf}
 

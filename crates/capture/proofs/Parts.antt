@@ -10,7 +10,7 @@ use lib.Dec.{T, eqb, ltb}
 use lib.ListN.{length, drop, length-append, length-drop}
 use lib.Seq.{take-append-le, drop-append-le}
 use Rattle.wire.specs.Numbers.{part, numberOr0, littleEndianOr0}
-use Rattle.frame.specs.Refusals.{firstOf}
+use Rattle.refusal.specs.Refusals.{firstOf}
 use Rattle.capture.specs.Records.{end, lengthOf, kindOf, sizeOf, bodyOf, frameOf, wrongLength, unknownKind, frontBy, entryOf}
 use Rattle.capture.specs.Parts.{Whole, ReadInParts}
 use Rattle.capture.proofs.Fronts.{wrong, unknown, known, empty}

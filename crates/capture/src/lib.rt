@@ -1,5 +1,5 @@
 // A capture's records, one at a time: what stands at the front of the bytes that remain of it.
-use frame::refusal::Refusal;
+use refusal::Refusal;
 ghost use mathlib.Core.Path.{_≡_};
 ghost use Rattle.capture.specs.Records.{told, entryOf, wrongLength, unknownKind, bodyOf, frameOf};
 ghost use Rattle.capture.specs.Sizes.{RecordSizes};

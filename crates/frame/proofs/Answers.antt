@@ -5,19 +5,19 @@ use mathlib.Core.List.{List}
 use native.Mathlib.Omega.{arith}
 use borrow.Author.Tests.{le-ltb}
 use lib.ListN.{length}
-use Rattle.frame.specs.declared.refusal.Refusal.{Refusal}
+use Rattle.refusal.specs.declared.Refusal.{Refusal}
 use Rattle.frame.specs.declared.layout.Fields.{Fields}
 use Rattle.frame.specs.declared.Reading.{Reading}
 use Rattle.frame.specs.declared.Reading.the-variants.{Accepted, Refused}
 use Rattle.frame.specs.declared.layout.Header.{Header}
 use Rattle.frame.specs.declared.layout.Cip.{Cip}
-use Rattle.frame.specs.declared.refusal.Verdict.{Verdict}
-use Rattle.frame.specs.declared.refusal.Verdict.the-variants as verdict
+use Rattle.refusal.specs.declared.Verdict.{Verdict}
+use Rattle.refusal.specs.declared.Verdict.the-variants as verdict
 use Rattle.frame.specs.Layout.{headerOf, cipOf, fieldsOf}
-use Rattle.frame.specs.Refusals.{verdictNumber, numberOf, firstOf}
+use Rattle.refusal.specs.Refusals.{verdictNumber, numberOf, firstOf}
 use Rattle.frame.specs.Checks.{lengthChecks, headerChecks, blockChecks, frameChecks, refusal}
 use Rattle.frame.specs.Reading.{Answer, answer, reading, told, payloadOf, dataOf}
-use Rattle.frame.proofs.First.{positive, stop, go}
+use Rattle.refusal.proofs.First.{positive, stop, go}
 use Rattle.frame.proofs.Groups.{read-then, accepted-room}
 
 number-of-answer : (n : ℕ) (f : Fields) → answer n f .number ≡ n

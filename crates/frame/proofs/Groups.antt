@@ -8,9 +8,9 @@ use lib.Dec.{T}
 use Rattle.frame.specs.declared.layout.Stream.{Stream}
 use Rattle.frame.specs.declared.layout.Header.{Header}
 use Rattle.frame.specs.declared.layout.Fields.{Fields}
-use Rattle.frame.specs.Refusals.{firstOf}
+use Rattle.refusal.specs.Refusals.{firstOf}
 use Rattle.frame.specs.Checks.{quadlets, blockBytes, lengthChecks, ethernetChecks, avtpChecks, addressChecks, streamChecks, blockChecks, headerChecks, readChecks, frameChecks}
-use Rattle.frame.proofs.First.{numbered, clear, orElse, then, both}
+use Rattle.refusal.proofs.First.{numbered, clear, orElse, then, both}
 
 pub header-then : (n : ℕ) (h : Header) → firstOf (headerChecks n h) ≡
     orElse (firstOf (ethernetChecks (h .ethernet))) (orElse (firstOf (avtpChecks (h .avtp))) (orElse (firstOf (addressChecks (h .ethernet))) (firstOf (streamChecks n (h .stream)))))

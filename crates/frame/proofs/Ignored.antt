@@ -14,7 +14,7 @@ use Rattle.wire.specs.Bits.{bits, flag}
 use Rattle.wire.specs.Numbers.{part, number, numberAt}
 use Rattle.frame.specs.Layout.{ethernetOf, avtpOf, streamOf, headerOf, cipOf, fieldsOf}
 use Rattle.frame.specs.declared.layout.Fields.{Fields}
-use Rattle.frame.specs.Refusals.{firstOf}
+use Rattle.refusal.specs.Refusals.{firstOf}
 use Rattle.frame.specs.Checks.{lengthChecks, streamChecks, headerChecks, readChecks, frameChecks, refusal}
 use Rattle.frame.specs.Reading.{reading, payloadOfNumber, payloadOf}
 use Rattle.frame.specs.Ignored.{regarded, through, Alike, Bytes, IgnoredBits}

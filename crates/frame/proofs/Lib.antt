@@ -1,5 +1,4 @@
 pub mod Found
-pub mod First
 pub mod Groups
 pub mod Answers
 pub mod Ignored

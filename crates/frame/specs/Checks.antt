@@ -12,7 +12,7 @@ use Rattle.frame.specs.declared.layout.Cip.{Cip}
 use Rattle.frame.specs.declared.layout.Header.{Header}
 use Rattle.frame.specs.declared.layout.Fields.{Fields}
 use Rattle.frame.specs.Layout.{fieldsOf}
-use Rattle.frame.specs.Refusals.{Check, _answers_, firstOf}
+use Rattle.refusal.specs.Refusals.{Check, _answers_, firstOf}
 
 abbrev pub differs : ℕ → ℕ → Bool
 differs a b = not (eqb a b)

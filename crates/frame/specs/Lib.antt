@@ -1,5 +1,4 @@
 pub mod Layout
-pub mod Refusals
 pub mod Checks
 pub mod Reading
 pub mod Ignored

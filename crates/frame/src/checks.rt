@@ -4,11 +4,11 @@ use crate::layout::Cip;
 use crate::layout::Ethernet;
 use crate::layout::Header;
 use crate::layout::Stream;
-use crate::refusal::Refusal;
-use crate::refusal::Verdict;
+use refusal::Refusal;
+use refusal::Verdict;
 ghost use mathlib.Core.Path.{_≡_};
 ghost use Prim.Native.Nat.{_≤_};
-ghost use Rattle.frame.specs.Refusals.{verdictNumber, firstOf};
+ghost use Rattle.refusal.specs.Refusals.{verdictNumber, firstOf};
 ghost use Rattle.frame.specs.Checks.{lengthChecks, ethernetChecks, avtpChecks, misaddressed, addressChecks, streamChecks, blockBytes, partialBlock, blockChecks, headerChecks};
 
 pub(crate) fn check_length(n: usize) -> Verdict

@@ -2,12 +2,14 @@
 // first fitting number out.
 pub mod checks;
 pub mod layout;
-pub mod refusal;
 
 use layout::Fields;
 use refusal::Refusal;
 use refusal::Verdict;
 ghost use mathlib.Core.Path.{_≡_};
+ghost use Prim.Native.Nat.{_+_, _<_};
+ghost use lib.ListN.{length};
+ghost use denote.Ref.{ptr};
 ghost use Rattle.frame.specs.Reading.{reading, told, dataOf, payloadOf, blocksOf, firstQuadlet};
 ghost use Rattle.frame.specs.Ignored.{IgnoredBits};
 
@@ -41,6 +43,8 @@ pub fn read(frame: &[u8]) -> Reading
 // read the frame already.
 pub fn data(frame: &[u8], data_length: u16) -> &[u8]
     ensures { λ r. ⌜ now r ≡ dataOf (now (frame .entry)) «data_length» ⌝ }
+    ensures { λ r. ⌜ ptr r .0 ≡ ptr (frame .entry) .0 ⌝ }
+    ensures { λ r. ⌜ (0 < length (now r) → ptr r .1 ≡ ptr (frame .entry) .1 + 50) ⌝ }
 {
     if data_length < 8 {
         return &frame[..0];
@@ -55,6 +59,8 @@ pub fn data(frame: &[u8], data_length: u16) -> &[u8]
 // The part of the frame that is its payload; empty where the frame is refused.
 pub fn payload(frame: &[u8]) -> &[u8]
     ensures { λ r. ⌜ now r ≡ payloadOf (now (frame .entry)) ⌝ }
+    ensures { λ r. ⌜ ptr r .0 ≡ ptr (frame .entry) .0 ⌝ }
+    ensures { λ r. ⌜ (0 < length (now r) → ptr r .1 ≡ ptr (frame .entry) .1 + 50) ⌝ }
 {
     let Reading::Accepted(fields) = read(frame) else {
         return &frame[..0];

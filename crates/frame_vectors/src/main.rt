@@ -82,7 +82,7 @@ fn show_payload(payload: &[u8], dbs: u8) {
 fn show(bytes: &[u8]) {
     match frame::read(bytes) {
         Reading::Refused(refusal) => {
-            number(b"refused ", frame::refusal::number(refusal) as u64);
+            number(b"refused ", refusal::number(refusal) as u64);
         }
         Reading::Accepted(f) => {
             text(b"accepted");

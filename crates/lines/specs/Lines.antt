@@ -1,8 +1,8 @@
 -- The lines of a listing (document 01, Capture and listing). Each ends in a line feed.
-use Prim.Native.Nat.{ℕ}
+use Prim.Native.Nat.{ℕ, _+_, _%_, _^_}
 use mathlib.Core.Bool.{Bool, true, false}
 use mathlib.Core.List.{List, _++_}
-use Rattle.frame.specs.Refusals.{numberOf}
+use Rattle.refusal.specs.Refusals.{numberOf}
 use Rattle.presentation.specs.declared.Kind.{Kind}
 use Rattle.presentation.specs.declared.Kind.the-variants.{None, Cut, Outside, Late, Ahead}
 use Rattle.presentation.specs.declared.Timing.{Timing}
@@ -63,3 +63,14 @@ lineText n admitted = decimal n ++ ascii " admitted\n"
 lineText n removed = decimal n ++ ascii " removed\n"
 lineText n (refused number) = decimal n ++ ascii " refused " ++ decimal number ++ ascii "\n"
 lineText n (frame flags timing) = decimal n ++ flagsText flags ++ timingText timing
+
+-- ---- The end of a listing
+
+-- Record numbers are 64 bits wide: 0 comes after 18,446,744,073,709,551,615.
+abbrev pub next : ℕ → ℕ
+next n = (n + 1) % 2 ^ 64
+
+-- after n records: where the capture ends inside a record that record is listed and counted too, and then the last line
+unfoldable pub ending : Bool → ℕ → List ℕ
+ending true n = lineText (next n) (refused 41) ++ endLine (next n)
+ending false n = endLine n

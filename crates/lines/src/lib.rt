@@ -2,13 +2,13 @@
 mod parts;
 mod text;
 
-use frame::refusal::Refusal;
 use presentation::Timing;
+use refusal::Refusal;
 use stream::Flags;
 ghost use mathlib.Core.Path.{_≡_};
 ghost use Prim.Native.Nat.{_≤_};
 ghost use lib.ListN.{length};
-ghost use Rattle.lines.specs.Lines.{startLine, endLine, lineOf, lineText};
+ghost use Rattle.lines.specs.Lines.{startLine, endLine, ending, lineOf, lineText};
 ghost use Rattle.lines.specs.Writing.{roomy, told, writing};
 
 // What became of a record of a capture.
@@ -63,6 +63,20 @@ pub fn put_record(out: &mut [u8], at: usize, n: u64, outcome: Outcome) -> Writte
         return Written::NoRoom;
     }
     Written::UpTo(parts::put_line(out, at, n, outcome))
+}
+
+// The end of a listing, after so many records: the line of a record in which the capture ends, if it does, and the last line.
+pub fn put_ending(out: &mut [u8], at: usize, cut: bool, records: u64) -> Written
+    ensures { λ r. ⌜ told r (now (out .exit)) ≡ writing (now (out .entry)) at (ending cut records) ⌝ }
+    ensures { λ r. ⌜ told r (now (out .exit)) .end ≤ length (now (out .exit)) ⌝ }
+{
+    if !roomy(out.len(), at) {
+        return Written::NoRoom;
+    }
+    if cut {
+        return Written::UpTo(parts::put_cut(out, at, records));
+    }
+    Written::UpTo(parts::put_last(out, at, records))
 }
 
 // The last line, with the number of records.

@@ -1,15 +1,16 @@
 // The lines of a listing, put into a buffer with room for the longest.
 use crate::Outcome;
 use crate::text;
-use frame::refusal::Refusal;
 use presentation::Timing;
+use refusal::Refusal;
 use stream::Flags;
 ghost use Prim.Native.Nat.{_+_, _≤_};
+ghost use mathlib.Core.Bool.{true};
 ghost use mathlib.Core.List.{_++_};
 ghost use lib.ListN.{length};
-ghost use Rattle.frame.specs.Refusals.{numberOf};
+ghost use Rattle.refusal.specs.Refusals.{numberOf};
 ghost use Rattle.lines.specs.Text.{decimal};
-ghost use Rattle.lines.specs.Lines.{endLine, refused, frame, flagsText, timingText, lineOf, lineText};
+ghost use Rattle.lines.specs.Lines.{endLine, ending, refused, frame, flagsText, timingText, lineOf, lineText};
 ghost use Rattle.lines.specs.Writing.{lineRoom};
 ghost use Rattle.lines.specs.Private.{Put};
 
@@ -55,8 +56,19 @@ fn put_refused(out: &mut [u8], at: usize, n: u64, refusal: Refusal) -> usize
 {
     let a = text::put_number(out, at, n);
     let b = text::put(out, a, b" refused ");
-    let c = text::put_number(out, b, frame::refusal::number(refusal) as u64);
+    let c = text::put_number(out, b, refusal::number(refusal) as u64);
     text::put(out, c, b"\n")
+}
+
+// The line of a record in which the capture ends, and the last line.
+pub(crate) fn put_cut(out: &mut [u8], at: usize, records: u64) -> usize
+    requires { ⌜ at + lineRoom ≤ length (now out) ⌝ }
+    ensures { λ r. ⌜ Put (now (out .entry)) at (ending true records) (now (out .exit)) r ⌝ }
+    ensures { λ r. ⌜ r ≤ at + lineRoom ⌝ }
+{
+    let n = std::num::wrapping_add_u64(records, 1);
+    let a = put_refused(out, at, n, Refusal::RecordCut);
+    put_last(out, a, n)
 }
 
 // A record's number and what comes after it.
@@ -83,9 +95,9 @@ pub(crate) fn put_line(out: &mut [u8], at: usize, n: u64, outcome: Outcome) -> u
 }
 
 pub(crate) fn put_last(out: &mut [u8], at: usize, records: u64) -> usize
-    requires { ⌜ at + lineRoom ≤ length (now out) ⌝ }
+    requires { ⌜ at + 33 ≤ length (now out) ⌝ }
     ensures { λ r. ⌜ Put (now (out .entry)) at (endLine records) (now (out .exit)) r ⌝ }
-    ensures { λ r. ⌜ r ≤ at + lineRoom ⌝ }
+    ensures { λ r. ⌜ r ≤ at + 33 ⌝ }
 {
     let a = text::put(out, at, b"end records=");
     let b = text::put_number(out, a, records);

@@ -27,7 +27,6 @@ use denote.Enum.Laws as EL
 use denote.Triple.Statement.{Contract}
 use denote.Triple.Spec.{tripleOf}
 use denote.Triple.Clauses.{Clauses, closing, ensured, lasts}
-use Rattle.frame.specs.Reading.{payloadOf}
 use Rattle.capture.specs.declared.Entry.{Entry}
 use Rattle.capture.specs.Records.{told, end, entryOf, frameOf}
 use Rattle.capture.proofs.Entry as I
@@ -135,7 +134,7 @@ module _ {M : Type 1} (𝓤 : URA M) (H : Heap 𝓤) (A : Atoms 𝓤) (mem : Mem
       to-receive = (((ν ∷ [], (κ, tt)), (fullShare, (q, tt)), tt, (x, (y, (L, tt))), (sliceVal (b, o) (length ys) ∷ [], (slice-vals y, (vint w64 L ∷ [], tt)))), tt)
 
       abbrev pub ReceiveSaid : Receipt → Type 0
-      ReceiveSaid r = answered r (payloadOf (y .now)) ≡ receive ys (y .now) L .0
+      ReceiveSaid r = answered r (y .now) ≡ receive ys (y .now) L .0
 
       abbrev pub received : List Record
       received = receive ys (y .now) L .1

@@ -7,9 +7,9 @@ use native.Mathlib.Nat.{not-suc-le-zero, le-of-suc-le-suc}
 use lib.Dec.{T, ltb}
 use lib.ListN.{length, take, drop, length-drop}
 use lib.Seq.{sets, take-length}
-use Rattle.frame.specs.declared.refusal.Refusal.{Refusal}
-use Rattle.frame.specs.Refusals.{numberOf}
-use Rattle.frame.proofs.First.{positive}
+use Rattle.refusal.specs.declared.Refusal.{Refusal}
+use Rattle.refusal.specs.Refusals.{numberOf}
+use Rattle.refusal.proofs.First.{positive}
 use Rattle.stream.specs.declared.Receipt.the-variants.{Refused}
 use Rattle.stream.specs.Answers.{refusedWith, told as answered}
 use Rattle.capture.specs.Records.{end, entryOf, frameOf}

@@ -3,8 +3,7 @@ use Prim.Native.Nat.{ℕ, zero, suc}
 use mathlib.Core.Path.{_≡_, refl, ap, _∙_}
 use mathlib.Core.List.{List, []}
 use lib.ListN.{length, length-set}
-use Rattle.frame.specs.Refusals.{firstOf}
-use Rattle.frame.specs.Reading.{payloadOf}
+use Rattle.refusal.specs.Refusals.{firstOf}
 use Rattle.capture.specs.Records.{Front, end, ended, skipped, arrival, admission, removal, frameOf}
 use Rattle.stream.specs.declared.Record.{Record}
 use Rattle.stream.specs.declared.Receipt.{Receipt}
@@ -63,9 +62,9 @@ abbrev pub ReceiptLine : Receipt → Outcome → Type 0
 ReceiptLine r o = lineOf o ≡ frameLine (answered r [] .number) (answered r [])
 
 module _ (rest : List ℕ) (t : Table) (o : Outcome) where
-  pub obeys-frame : (L size : ℕ) (frame : List ℕ) (r : Receipt) → frame ≡ frameOf rest size → answered r (payloadOf frame) ≡ receive t frame L .0 → ReceiptLine r o → Obeys (arrival L size) rest t o (receive t frame L .1)
+  pub obeys-frame : (L size : ℕ) (frame : List ℕ) (r : Receipt) → frame ≡ frameOf rest size → answered r frame ≡ receive t frame L .0 → ReceiptLine r o → Obeys (arrival L size) rest t o (receive t frame L .1)
   obeys-frame L size frame r is said line =
-      (line ∙ any-payload r (payloadOf frame) ∙ ap answerLine said ∙ ap (λ (f : List ℕ). answerLine (receive t f L .0)) is, ap (λ (f : List ℕ). receive t f L .1) is)
+      (line ∙ any-payload r frame ∙ ap answerLine said ∙ ap (λ (f : List ℕ). answerLine (receive t f L .0)) is, ap (λ (f : List ℕ). receive t f L .1) is)
 
   pub obeys-admission : (id size : ℕ) (c : Change) → changeNumber c ≡ admit t id .0 → lineOf o ≡ changeLine (changeNumber c) admitted → Obeys (admission id size) rest t o (admit t id .1)
   obeys-admission id size c said line = (line ∙ ap (λ (n : ℕ). changeLine n admitted) said, refl)

@@ -1,8 +1,8 @@
 // A chunk of a capture at a time: the whole records at its front, as far as the output has room for their lines.
 use capture::Entry;
-use frame::refusal::Refusal;
 use lines::Outcome;
 use lines::Written;
+use refusal::Refusal;
 use stream::Receipt;
 use stream::Record;
 use table::Change;
@@ -159,7 +159,12 @@ pub(crate) fn obey(table: &mut [Record], chunk: &[u8], at: usize, entry: Entry) 
 }
 
 // The whole records at the front of the chunk, as far as the output has room for their lines. `records` were listed before.
-pub fn list_chunk(table: &mut [Record], chunk: &[u8], out: &mut [u8], records: u64) -> Progress
+pub(crate) fn list_chunk(
+    table: &mut [Record],
+    chunk: &[u8],
+    out: &mut [u8],
+    records: u64,
+) -> Progress
     ensures { λ r. ⌜ ChunkListed (now (chunk .entry)) (now (table .entry)) records (now (out .entry)) r (now (table .exit)) (now (out .exit)) ⌝ }
 {
     let mut p = Progress {

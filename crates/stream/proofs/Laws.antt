@@ -6,13 +6,11 @@ use mathlib.Core.Bool.{Bool, true, false, not, _&&_}
 use mathlib.Core.List.{List}
 use borrow.Author.Tests.{eq-eqb}
 use Rattle.frame.specs.Layout.{fieldsOf}
-use Rattle.frame.specs.Checks.{refusal}
 use Rattle.frame.specs.Reading.{payloadOf, blocksOf}
-use Rattle.frame.proofs.Answers.{data-payload}
 use Rattle.stream.specs.declared.Record.{Record}
 use Rattle.stream.specs.Records.{noCounts, admitted, flagsOf, bump, countsAfter, recordAfter}
-use Rattle.stream.specs.Step.{stepped, served}
-use Rattle.stream.specs.Answers.{stepOf, answerOf, after, told}
+use Rattle.stream.specs.Step.{stepped}
+use Rattle.stream.specs.Answers.{stepOf, answerOf, after}
 
 -- a step keeps the record in use, and its id
 pub after-in-use : (r : Record) (frame : List ℕ) (L : ℕ) → after r frame L .«in_use» ≡ r .«in_use»
@@ -49,16 +47,6 @@ module _ (r : Record) (frame : List ℕ) (L : ℕ) where
   pub after-mr-changes : after r frame L .counts .«mr_changes» ≡ bump (answerOf r frame L .flags .mr) (r .counts .«mr_changes»)
   unfolding after answerOf stepOf stepped recordAfter countsAfter
   after-mr-changes = refl
-
--- an accepted frame that was read is served by the step of its bytes
-module _ (r : Record) (frame : List ℕ) (L : ℕ) (accepted : refusal frame ≡ 0) where
-  pub served-after : served r (fieldsOf frame) frame L .after ≡ after r frame L
-  unfolding served after stepOf
-  served-after = rw (data-payload frame accepted)
-
-  pub served-answer : told (served r (fieldsOf frame) frame L .receipt) (payloadOf frame) ≡ answerOf r frame L
-  unfolding served answerOf stepOf
-  served-answer = rw (data-payload frame accepted)
 
 -- what a record expects of the next frame: this sequence number and block count, or anything where no frame has been seen
 abbrev pub Expects : Record → ℕ → ℕ → Type 0

@@ -6,8 +6,8 @@ use mathlib.Core.List.{List, []}
 use lib.IntN.{pos}
 use Rattle.frame.specs.declared.layout.Fields.{Fields}
 use Rattle.frame.specs.Layout.{fieldsOf}
-use Rattle.frame.specs.Refusals.{numberOf}
-use Rattle.frame.specs.Reading.{noFields, payloadOf}
+use Rattle.refusal.specs.Refusals.{numberOf}
+use Rattle.frame.specs.Reading.{noFields, payloadOf, dataOf}
 use Rattle.presentation.specs.declared.Timing.{Timing}
 use Rattle.presentation.specs.declared.Kind.the-variants.{None}
 use Rattle.presentation.specs.Presentation.{untimed}
@@ -56,7 +56,15 @@ after r frame L = stepOf r frame L .after
 unfoldable pub idOf : List ℕ → ℕ
 idOf frame = fieldsOf frame .header .stream .id
 
--- what each case of a receipt says, beside the payload that goes with it
+-- what each case of a receipt says of the frame for which it is given: its payload is the part of the frame that the receipt's own
+-- stream_data_length leaves to it, and empty where the frame is refused
 abbrev pub told : Receipt → List ℕ → Answer
-told (Accepted j) payload = record { number = 0; fields = j .fields; payload = payload; flags = j .flags; timing = j .timing }
-told (Refused r) payload = refusedWith (numberOf r)
+told (Accepted j) frame =
+    record {
+      number = 0;
+      fields = j .fields;
+      payload = dataOf frame (j .fields .header .stream .«data_length»);
+      flags = j .flags;
+      timing = j .timing;
+    }
+told (Refused r) frame = refusedWith (numberOf r)

@@ -1,7 +1,6 @@
 -- The marked examples of document 01, M1 to M12: one list, and one claim about it.
 use Prim.Native.Nat.{ℕ, _/_, _%_}
 use mathlib.Core.Path.{_≡_}
-use mathlib.Core.Bool.{Bool, false}
 use mathlib.Core.List.{List, [], _∷_, _++_}
 use lib.IntN.{ℤ, pos, negℤ}
 use lib.ListN.{replicate, take}
@@ -12,8 +11,9 @@ use Rattle.presentation.specs.declared.Kind.{Kind}
 use Rattle.presentation.specs.declared.Kind.the-variants.{Outside, Late, Ahead}
 use Rattle.presentation.specs.Presentation.{timing}
 use Rattle.stream.specs.declared.Record.{Record}
+use Rattle.stream.specs.declared.Flags.{Flags}
 use Rattle.stream.specs.Records.{admitted}
-use Rattle.stream.specs.Answers.{answerOf, after}
+use Rattle.stream.specs.Answers.{noFlags, answerOf, after}
 
 -- the first 42 bytes of a sound frame of stream 1: this sequence number and stream_data_length
 abbrev header : ℕ → ℕ → List ℕ
@@ -35,20 +35,20 @@ pub data Example : Type 0 where
   read : List ℕ → ℕ → ℕ → Example
   -- a frame, and the next block count after it
   next : List ℕ → ℕ → Example
-  -- successive frames of a newly admitted stream, and their sequence flags
-  flags : List (List ℕ) → List Bool → Example
+  -- successive frames of a newly admitted stream, and their flags
+  flags : List (List ℕ) → List Flags → Example
   -- L, T, and what is reckoned: d, kind and time
   time : ℕ → ℕ → ℤ → Kind → ℕ → Example
 
-abbrev sequenceFlags : Record → List (List ℕ) → List Bool
-sequenceFlags r [] = []
-sequenceFlags r (f ∷ fs) = answerOf r f 0 .flags .sequence ∷ sequenceFlags (after r f 0) fs
+abbrev flagsOfEach : Record → List (List ℕ) → List Flags
+flagsOfEach r [] = []
+flagsOfEach r (f ∷ fs) = answerOf r f 0 .flags ∷ flagsOfEach (after r f 0) fs
 
 -- the rules answer an example as document 01 has it
 abbrev pub Holds : Example → Type 0
 Holds (read f n blocks) = (refusal f ≡ n) × (blocksOf (payloadOf f) (fieldsOf f .cip .dbs) ≡ blocks)
 Holds (next f n) = after (admitted 1) f 0 .«next_dbc» ≡ n
-Holds (flags fs bs) = sequenceFlags (admitted 1) fs ≡ bs
+Holds (flags fs raised) = flagsOfEach (admitted 1) fs ≡ raised
 Holds (time L T d kind t) = timing L T ≡ record { kind = kind; offset = d; time = t }
 
 abbrev pub AllHold : List Example → Type 0
@@ -67,7 +67,7 @@ marked =
     ∷ next (frame 0 40 1 250 32) 2
     ∷ next (frame 0 1476 1 10 1468) 121
     -- M8
-    ∷ flags (frame 255 8 1 0 0 ∷ frame 0 8 1 0 0 ∷ frame 1 8 1 0 0 ∷ []) (false ∷ false ∷ false ∷ [])
+    ∷ flags (frame 255 8 1 0 0 ∷ frame 0 8 1 0 0 ∷ frame 1 8 1 0 0 ∷ []) (noFlags ∷ noFlags ∷ noFlags ∷ [])
     -- M9 to M12
     ∷ time 4_294_967_290 10 (pos 16) Ahead 4_294_967_306
     ∷ time 4_294_967_306 4_294_967_290 (negℤ (pos 16)) Late 4_294_967_290

@@ -3,12 +3,9 @@
 use Prim.Native.Nat.{ℕ}
 use mathlib.Core.List.{List}
 use Rattle.frame.specs.declared.layout.Fields.{Fields}
-use Rattle.frame.specs.Reading.{dataOf}
 use Rattle.presentation.specs.Presentation.{presentation}
 use Rattle.stream.specs.declared.Record.{Record}
 use Rattle.stream.specs.declared.Stepped.{Stepped}
-use Rattle.stream.specs.declared.Served.{Served}
-use Rattle.stream.specs.declared.Receipt.the-variants.{Accepted}
 use Rattle.stream.specs.Records.{flagsOf, recordAfter}
 
 unfoldable pub stepped : Record → Fields → List ℕ → ℕ → Stepped
@@ -17,13 +14,4 @@ stepped r f payload L =
       after = recordAfter r f payload (flagsOf r f);
       flags = flagsOf r f;
       timing = presentation L (f .cip .sph) (f .header .avtp .tv) (f .header .stream .timestamp) payload;
-    }
-
--- the same for a frame that has been read, and its receipt
-unfoldable pub served : Record → Fields → List ℕ → ℕ → Served
-served r f frame L =
-    let s = stepped r f (dataOf frame (f .header .stream .«data_length»)) L in
-    record {
-      after = s .after;
-      receipt = Accepted (record { fields = f; flags = s .flags; timing = s .timing });
     }

@@ -2,11 +2,12 @@
 // the record brought up to date.
 use frame::layout::Cip;
 use frame::layout::Fields;
-use frame::refusal::Refusal;
 use presentation::Timing;
+use refusal::Refusal;
 ghost use mathlib.Core.Path.{_≡_};
 ghost use Rattle.stream.specs.Records.{unused, admitted, formatOf, formatChange, sequenceBreak, flagsOf, nextDbc, bump, countsAfter, recordAfter};
-ghost use Rattle.stream.specs.Step.{stepped, served};
+ghost use Rattle.stream.specs.Step.{stepped};
+ghost use Rattle.stream.specs.Answers.{told};
 ghost use Rattle.stream.specs.Examples.{MarkedExamples};
 
 // The four format fields of a CIP header.
@@ -62,11 +63,6 @@ pub struct Judged {
 pub enum Receipt {
     Accepted(Judged),
     Refused(Refusal),
-}
-
-pub struct Served {
-    pub after: Record,
-    pub receipt: Receipt,
 }
 
 pub fn unused() -> Record
@@ -214,23 +210,16 @@ pub fn step(last: Record, fields: Fields, payload: &[u8], arrival_time: u64) -> 
     }
 }
 
-// An accepted frame that has been read, for the record of its stream: what is answered, and the record afterwards.
-pub fn serve(last: Record, fields: Fields, frame: &[u8], arrival_time: u64) -> Served
-    ensures { λ r. ⌜ r ≡ served last fields (now (frame .entry)) «arrival_time» ⌝ }
+// The payload that goes with a receipt: a part of the frame for which it was given, empty where that is refused.
+pub fn payload_of(receipt: Receipt, frame: &[u8]) -> &[u8]
+    ensures { λ r. ⌜ now r ≡ told receipt (now (frame .entry)) .payload ⌝ }
 {
-    let payload = frame::data(frame, fields.header.stream.data_length);
-    let stepped = step(last, fields, payload, arrival_time);
-    let after = stepped.after;
-    let flags = stepped.flags;
-    let timing = stepped.timing;
-    let judged = Judged {
-        fields,
-        flags,
-        timing,
-    };
-    Served {
-        after,
-        receipt: Receipt::Accepted(judged),
+    match receipt {
+        Receipt::Accepted(judged) => {
+            let length = judged.fields.header.stream.data_length;
+            frame::data(frame, length)
+        }
+        Receipt::Refused(_) => &frame[..0],
     }
 }
 

@@ -29,12 +29,12 @@ use denote.Triple.Walked.{says}
 use denote.Triple.Clauses.{Clauses, closing, ensured, lasts}
 use Rattle.frame.specs.declared.Reading.{Reading}
 use Rattle.frame.specs.declared.layout.Fields.{Fields}
-use Rattle.frame.specs.Reading.{payloadOf, told as readAs}
+use Rattle.frame.specs.Reading.{told as readAs}
 use Rattle.stream.specs.declared.Record.{Record}
-use Rattle.stream.specs.declared.Served.{Served}
+use Rattle.table.specs.declared.Served.{Served}
 use Rattle.stream.specs.declared.Receipt.{Receipt}
 use Rattle.stream.specs.Answers.{told}
-use Rattle.stream.specs.Step.{served}
+use Rattle.table.specs.Private.{served}
 use Rattle.stream.specs.Records.{unused, admitted}
 use Rattle.table.specs.declared.Found.{Found}
 use Rattle.table.specs.declared.Wanted.{Wanted}
@@ -50,9 +50,9 @@ use Rattle.table.proofs.Changing.{Fits, changedAt}
 use Rattle.frame.proofs.layout.Fields as U
 use Rattle.frame.proofs.layout.Fields.Laws as U′
 use Rattle.frame.proofs.Reading as G
-use Rattle.stream.proofs.Served as S
+use Rattle.table.proofs.Served as S
 use Rattle.stream.proofs.Receipt as P
-use Rattle.stream.proofs.serve as serve
+use Rattle.table.proofs.serve as serve
 use Rattle.stream.proofs.admitted as new-record
 use Rattle.stream.proofs.unused as unused-record
 use Rattle.stream.proofs.Record as T
@@ -351,7 +351,7 @@ module _ {M : Type 1} (𝓤 : URA M) (H : Heap 𝓤) (A : Atoms 𝓤) (mem : Mem
 
     -- what the receipt says
     abbrev Tells : Receipt → Type 0
-    Tells r = told r (payloadOf (y .now)) ≡ receive ys (y .now) L .0
+    Tells r = told r (y .now) ≡ receive ys (y .now) L .0
 
     module _ (W : Given 𝓤 H A) where
       pub goes-receive : L < 2 ^ 64 → ent 𝓤 (mean 𝓤 H A ((‵ (flft κ q) ⊛ (FrameAlive κ₁ q₁ y ⊛ Frame κ₁ q₁ y)) ⊛ Mut κ q b o γ ys)) (Receive .pre to-receive)

@@ -6,10 +6,10 @@ use mathlib.Core.Bool.{Bool, true, false}
 use native.Mathlib.Omega.{arith}
 use lib.Dec.{ltb}
 use lib.ListN.{length, length-set}
-use Rattle.frame.specs.declared.refusal.Refusal.{Refusal}
-use Rattle.frame.specs.declared.refusal.Refusal.the-variants.{TableTooLong, AlreadyAdmitted, TableFull, NothingToRemove}
-use Rattle.frame.specs.Refusals.{firstOf}
-use Rattle.frame.proofs.First.{positive}
+use Rattle.refusal.specs.declared.Refusal.{Refusal}
+use Rattle.refusal.specs.declared.Refusal.the-variants.{TableTooLong, AlreadyAdmitted, TableFull, NothingToRemove}
+use Rattle.refusal.specs.Refusals.{firstOf}
+use Rattle.refusal.proofs.First.{positive}
 use Rattle.stream.specs.declared.Record.{Record}
 use Rattle.stream.specs.Records.{unused, admitted}
 use Rattle.table.specs.declared.Found.{Found}

@@ -19,11 +19,11 @@ use types.Part.{Part, whole, sub}
 use denote.Laws.{Is}
 use denote.Struct.Laws as LL
 use denote.Enum.Laws as EL
-use Rattle.frame.specs.declared.refusal.Refusal.{Refusal}
+use Rattle.refusal.specs.declared.Refusal.{Refusal}
 use Rattle.frame.specs.declared.layout.Fields.{Fields}
 use Rattle.frame.specs.declared.Reading.{Reading}
-use Rattle.frame.proofs.refusal.Refusal as N
-use Rattle.frame.proofs.refusal.Refusal.Laws as N′
+use Rattle.refusal.proofs.Refusal as N
+use Rattle.refusal.proofs.Refusal.Laws as N′
 use Rattle.frame.proofs.layout.Fields as U
 use Rattle.frame.proofs.layout.Fields.Laws as U′
 use Rattle.frame.proofs.layout.Header as Hd
@@ -46,12 +46,12 @@ use Rattle.table.proofs.Found.Laws as F′
 use Rattle.table.proofs.Wanted as Q
 use Rattle.table.proofs.Wanted.Laws as Q′
 use Rattle.stream.specs.declared.Record.{Record}
-use Rattle.stream.specs.declared.Served.{Served}
+use Rattle.table.specs.declared.Served.{Served}
 use Rattle.stream.specs.declared.Receipt.{Receipt}
 use Rattle.stream.proofs.Record as T
 use Rattle.stream.proofs.Record.Laws as T′
-use Rattle.stream.proofs.Served as S
-use Rattle.stream.proofs.Served.Laws as S′
+use Rattle.table.proofs.Served as S
+use Rattle.table.proofs.Served.Laws as S′
 use Rattle.stream.proofs.Receipt as P
 use Rattle.stream.proofs.Receipt.Laws as P′
 

@@ -7,23 +7,24 @@ use mathlib.Core.List.{List, [], _∷_}
 use native.Mathlib.Omega.{arith}
 use lib.Dec.{ltb}
 use lib.ListN.{length, set}
-use Rattle.frame.specs.declared.refusal.Refusal.{Refusal}
-use Rattle.frame.specs.declared.refusal.Refusal.the-variants.{NotAdmitted, TableTooLong}
+use Rattle.refusal.specs.declared.Refusal.{Refusal}
+use Rattle.refusal.specs.declared.Refusal.the-variants.{NotAdmitted, TableTooLong}
 use Rattle.frame.specs.declared.layout.Fields.{Fields}
 use Rattle.frame.specs.declared.Reading.the-variants.{Accepted, Refused}
 use Rattle.frame.specs.Layout.{fieldsOf}
-use Rattle.frame.specs.Refusals.{numberOf, Check, _answers_, firstOf}
+use Rattle.refusal.specs.Refusals.{numberOf, Check, _answers_, firstOf}
 use Rattle.frame.specs.Checks.{frameChecks, refusal}
-use Rattle.frame.specs.Reading.{Answer as ReadAnswer, answer, reading, payloadOf, told as readAs}
-use Rattle.frame.proofs.First.{positive, orElse, then}
+use Rattle.frame.specs.Reading.{Answer as ReadAnswer, answer, reading, told as readAs}
+use Rattle.refusal.proofs.First.{positive, orElse, then}
 use Rattle.stream.specs.declared.Record.{Record}
 use Rattle.frame.proofs.Groups.{frame-numbered}
 use Rattle.stream.specs.declared.Receipt.{Receipt}
-use Rattle.stream.specs.declared.Served.{Served}
+use Rattle.table.specs.declared.Served.{Served}
 use Rattle.stream.specs.declared.Receipt.the-variants as receipt
-use Rattle.stream.specs.Step.{served}
+use Rattle.table.specs.Private.{served}
 use Rattle.stream.specs.Answers.{answerOf, after, idOf, told}
-use Rattle.stream.proofs.Laws.{served-after, served-answer}
+use Rattle.frame.proofs.Answers.{data-payload}
+use Rattle.stream.specs.Answers.{stepOf}
 use Rattle.table.specs.declared.Found.the-variants.{At, Nothing}
 use Rattle.table.specs.declared.Wanted.the-variants.{Holding}
 use Rattle.table.specs.Table.{Table, any, place, holds, at, numberWith, receive, receiveAlone, only}
@@ -67,9 +68,19 @@ pub short-enough : (n : ℕ) (frame : List ℕ) → ltb 64 n ≡ false → readi
 unfolding readingFor firstOf reading refusal
 short-enough n frame e = rw e
 
+-- an accepted frame that was read is served by the step of its bytes
+module _ (r : Record) (frame : List ℕ) (L : ℕ) (accepted : refusal frame ≡ 0) where
+  served-after : served r (fieldsOf frame) frame L .after ≡ after r frame L
+  unfolding served after stepOf
+  served-after = rw (data-payload frame accepted)
+
+  served-answer : told (served r (fieldsOf frame) frame L .receipt) frame ≡ answerOf r frame L
+  unfolding served answerOf stepOf
+  served-answer = rw (data-payload frame accepted)
+
 -- ---- the answer and the table afterwards
 abbrev pub Receives : Table → List ℕ → ℕ → Receipt → Table → Type 0
-Receives t frame L r u = (told r (payloadOf frame) ≡ receive t frame L .0) × (u ≡ receive t frame L .1)
+Receives t frame L r u = (told r frame ≡ receive t frame L .0) × (u ≡ receive t frame L .1)
 
 module _ (t : Table) (frame : List ℕ) (L : ℕ) where
   refuses : (r : Refusal) → numberWith t frame ≡ numberOf r → Receives t frame L (receipt.Refused r) t
@@ -111,13 +122,13 @@ module _ (t : Table) (frame : List ℕ) (L : ℕ) where
         let there : place (holds (idOf frame)) t ≡ i = rw (← same-id) (found .1) in
         let by-number = accepts (decided true (found .0)) i there in
         let read : refusal frame ≡ 0 = past-20 (ltb 64 (length t)) (refusal frame) (accepted .0) in (
-          ap (λ (g : Fields). told (served (at t i) g frame L .receipt) (payloadOf frame)) (accepted .1) ∙ served-answer (at t i) frame L read ∙ by-number .0,
+          ap (λ (g : Fields). told (served (at t i) g frame L .receipt) frame) (accepted .1) ∙ served-answer (at t i) frame L read ∙ by-number .0,
           ap (λ (g : Fields). set t i (served (at t i) g frame L .after)) (accepted .1) ∙ ap (set t i) (served-after (at t i) frame L read) ∙ by-number .1,
         )
 
 -- ---- a record lent alone
 abbrev pub ReceivesAlone : Record → List ℕ → ℕ → Served → Type 0
-ReceivesAlone last frame L s = (told (s .receipt) (payloadOf frame) ≡ receiveAlone last frame L .0) × (s .after ≡ receiveAlone last frame L .1)
+ReceivesAlone last frame L s = (told (s .receipt) frame ≡ receiveAlone last frame L .0) × (s .after ≡ receiveAlone last frame L .1)
 
 found-alone : (id : ℕ) (last : Record) (b : Bool) → holds id last ≡ b → find (last ∷ []) (Holding id) ≡ cond b (At 0) Nothing
 unfolding find any place

@@ -3,12 +3,16 @@ use Prim.Native.Nat.{ℕ}
 use mathlib.Core.Bool.{Bool, cond}
 use mathlib.Core.List.{List, _∷_}
 use lib.Dec.{ltb}
-use Rattle.frame.specs.declared.refusal.Refusal.the-variants.{TableTooLong, AlreadyAdmitted, TableFull, NothingToRemove}
-use Rattle.frame.specs.Refusals.{_answers_, firstOf}
+use Rattle.refusal.specs.declared.Refusal.the-variants.{TableTooLong, AlreadyAdmitted, TableFull, NothingToRemove}
+use Rattle.refusal.specs.Refusals.{_answers_, firstOf}
 use Rattle.frame.specs.Checks.{frameChecks}
 use Rattle.frame.specs.Layout.{fieldsOf}
-use Rattle.frame.specs.Reading.{Answer, answer}
+use Rattle.frame.specs.declared.layout.Fields.{Fields}
+use Rattle.frame.specs.Reading.{Answer, answer, dataOf}
 use Rattle.stream.specs.declared.Record.{Record}
+use Rattle.stream.specs.declared.Receipt.the-variants.{Accepted}
+use Rattle.stream.specs.Step.{stepped}
+use Rattle.table.specs.declared.Served.{Served}
 use Rattle.table.specs.declared.Found.{Found}
 use Rattle.table.specs.declared.Found.the-variants.{At, Nothing}
 use Rattle.table.specs.declared.Wanted.{Wanted}
@@ -61,3 +65,14 @@ changeOf (Refuse r) = Refused r
 abbrev pub placeOf : Target → ℕ
 placeOf (Place i) = i
 placeOf (Refuse r) = 0
+
+-- ---- The step of a frame that has been read
+
+-- the same for a frame that has been read, and its receipt
+unfoldable pub served : Record → Fields → List ℕ → ℕ → Served
+served r f frame L =
+    let s = stepped r f (dataOf frame (f .header .stream .«data_length»)) L in
+    record {
+      after = s .after;
+      receipt = Accepted (record { fields = f; flags = s .flags; timing = s .timing });
+    }

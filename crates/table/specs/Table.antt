@@ -4,7 +4,7 @@ use mathlib.Core.Bool.{Bool, false, not, cond, _&&_, _||_}
 use mathlib.Core.List.{List, [], _∷_, _++_}
 use lib.Dec.{eqb, ltb}
 use lib.ListN.{length, getD, set}
-use Rattle.frame.specs.Refusals.{numberOf, Check, _answers_, firstOf}
+use Rattle.refusal.specs.Refusals.{numberOf, Check, _answers_, firstOf}
 use Rattle.frame.specs.Checks.{frameChecks}
 use Rattle.stream.specs.declared.Record.{Record}
 use Rattle.stream.specs.Records.{unused, admitted}

@@ -1,20 +1,21 @@
 // Stream records in a table that the caller lends, and one record lent alone: admission, removal and receiving. Every call finds bad
 // input itself, and what it refuses changes no record.
 use frame::Reading;
-use frame::refusal::Refusal;
+use frame::layout::Fields;
+use refusal::Refusal;
+use stream::Judged;
 use stream::Receipt;
 use stream::Record;
-use stream::Served;
 ghost use mathlib.Core.Path.{_≡_};
 ghost use Prim.Native.Nat.{_<_};
 ghost use lib.Dec.{ltb};
 ghost use lib.ListN.{length, set, replicate};
-ghost use Rattle.frame.specs.Reading.{payloadOf, told as readAs};
+ghost use Rattle.frame.specs.Reading.{told as readAs};
 ghost use Rattle.stream.specs.Answers.{told};
 ghost use Rattle.stream.specs.Records.{unused};
 ghost use Rattle.stream.specs.declared.Receipt.the-variants.{Refused};
 ghost use Rattle.table.specs.Table.{at, receive, receiveAlone, changeNumber, changed, admit, remove};
-ghost use Rattle.table.specs.Private.{wants, find, readingFor, placeToAdmit, placeToRemove, changeOf, placeOf};
+ghost use Rattle.table.specs.Private.{wants, find, readingFor, placeToAdmit, placeToRemove, changeOf, placeOf, served};
 
 // What a search looks for: the record in use that holds an id, or an unused one.
 pub(crate) enum Wanted {
@@ -31,6 +32,12 @@ pub(crate) enum Found {
 pub(crate) enum Target {
     Place(usize),
     Refuse(Refusal),
+}
+
+// What a frame is answered, and the record afterwards.
+pub(crate) struct Served {
+    after: Record,
+    receipt: Receipt,
 }
 
 // What admission and removal answer.
@@ -107,6 +114,26 @@ fn read_for(n: usize, frame: &[u8]) -> Reading
     frame::read(frame)
 }
 
+// An accepted frame that has been read, for the record of its stream: what is answered, and the record afterwards.
+fn serve(last: Record, fields: Fields, frame: &[u8], arrival_time: u64) -> Served
+    ensures { λ r. ⌜ r ≡ served last fields (now (frame .entry)) «arrival_time» ⌝ }
+{
+    let payload = frame::data(frame, fields.header.stream.data_length);
+    let stepped = stream::step(last, fields, payload, arrival_time);
+    let after = stepped.after;
+    let flags = stepped.flags;
+    let timing = stepped.timing;
+    let judged = Judged {
+        fields,
+        flags,
+        timing,
+    };
+    Served {
+        after,
+        receipt: Receipt::Accepted(judged),
+    }
+}
+
 // A refusal leaves the record as it was.
 fn refused(last: Record, refusal: Refusal) -> Served
     ensures { λ r. ⌜ r ≡ record { after = last; receipt = Refused refusal } ⌝ }
@@ -119,13 +146,13 @@ fn refused(last: Record, refusal: Refusal) -> Served
 
 // A frame for a record lent alone, by value.
 fn receive_alone(last: Record, frame: &[u8], arrival_time: u64) -> Served
-    ensures { λ r. ⌜ (told (r .receipt) (payloadOf (now (frame .entry))) ≡ receiveAlone last (now (frame .entry)) «arrival_time» .0) × (r .after ≡ receiveAlone last (now (frame .entry)) «arrival_time» .1) ⌝ }
+    ensures { λ r. ⌜ (told (r .receipt) (now (frame .entry)) ≡ receiveAlone last (now (frame .entry)) «arrival_time» .0) × (r .after ≡ receiveAlone last (now (frame .entry)) «arrival_time» .1) ⌝ }
 {
     match read_for(1, frame) {
         Reading::Refused(refusal) => refused(last, refusal),
         Reading::Accepted(fields) => {
             if is_wanted(last, Wanted::Holding(fields.header.stream.id)) {
-                stream::serve(last, fields, frame, arrival_time)
+                serve(last, fields, frame, arrival_time)
             } else {
                 refused(last, Refusal::NotAdmitted)
             }
@@ -135,7 +162,7 @@ fn receive_alone(last: Record, frame: &[u8], arrival_time: u64) -> Served
 
 // A frame for a record that is lent alone, as a table of one.
 pub fn receive_record(lent: &mut Record, frame: &[u8], arrival_time: u64) -> Receipt
-    ensures { λ r. ⌜ (told r (payloadOf (now (frame .entry))) ≡ receiveAlone (now (lent .entry)) (now (frame .entry)) «arrival_time» .0) × (now (lent .exit) ≡ receiveAlone (now (lent .entry)) (now (frame .entry)) «arrival_time» .1) ⌝ }
+    ensures { λ r. ⌜ (told r (now (frame .entry)) ≡ receiveAlone (now (lent .entry)) (now (frame .entry)) «arrival_time» .0) × (now (lent .exit) ≡ receiveAlone (now (lent .entry)) (now (frame .entry)) «arrival_time» .1) ⌝ }
 {
     let s = receive_alone(*lent, frame, arrival_time);
     *lent = s.after;
@@ -144,7 +171,7 @@ pub fn receive_record(lent: &mut Record, frame: &[u8], arrival_time: u64) -> Rec
 
 // A frame for a table: one search, and the one record of its stream is read and stored.
 pub fn receive(table: &mut [Record], frame: &[u8], arrival_time: u64) -> Receipt
-    ensures { λ r. ⌜ (told r (payloadOf (now (frame .entry))) ≡ receive (now (table .entry)) (now (frame .entry)) «arrival_time» .0) × (now (table .exit) ≡ receive (now (table .entry)) (now (frame .entry)) «arrival_time» .1) ⌝ }
+    ensures { λ r. ⌜ (told r (now (frame .entry)) ≡ receive (now (table .entry)) (now (frame .entry)) «arrival_time» .0) × (now (table .exit) ≡ receive (now (table .entry)) (now (frame .entry)) «arrival_time» .1) ⌝ }
 {
     match read_for(table.len(), frame) {
         Reading::Refused(refusal) => Receipt::Refused(refusal),
@@ -153,7 +180,7 @@ pub fn receive(table: &mut [Record], frame: &[u8], arrival_time: u64) -> Receipt
                 Found::Nothing => Receipt::Refused(Refusal::NotAdmitted),
                 Found::At(i) => {
                     let last = get(table, i);
-                    let s = stream::serve(last, fields, frame, arrival_time);
+                    let s = serve(last, fields, frame, arrival_time);
                     put(table, i, s.after);
                     s.receipt
                 }
@@ -226,7 +253,7 @@ pub fn remove(table: &mut [Record], id: u64) -> Change
 
 // Receiving, admission and removal over a table of 64 records by value.
 pub fn receive_in(table: [Record; 64], frame: &[u8], arrival_time: u64) -> Received
-    ensures { λ r. ⌜ (told (r .receipt) (payloadOf (now (frame .entry))) ≡ receive table (now (frame .entry)) «arrival_time» .0) × (r .table ≡ receive table (now (frame .entry)) «arrival_time» .1) ⌝ }
+    ensures { λ r. ⌜ (told (r .receipt) (now (frame .entry)) ≡ receive table (now (frame .entry)) «arrival_time» .0) × (r .table ≡ receive table (now (frame .entry)) «arrival_time» .1) ⌝ }
 {
     let mut records = table;
     let receipt = receive(&mut records, frame, arrival_time);

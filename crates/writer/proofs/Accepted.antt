@@ -9,7 +9,7 @@ use mir.Facts.{and-yes}
 use Rattle.wire.specs.Bits.{Fit}
 use Rattle.frame.specs.Layout.{vlanRow, packetRow, sourceRow, fractionRow, formatRow}
 use Rattle.frame.specs.Checks.{misaddressed, partialBlock}
-use Rattle.frame.proofs.First.{Clear, clear}
+use Rattle.refusal.proofs.First.{Clear, clear}
 use Rattle.writer.specs.declared.given.Given.{Given}
 use Rattle.writer.specs.Frames.{vlanValues, packetValues, sourceValues, fractionValues, formatValues}
 use Rattle.writer.specs.Writing.{fits, addressRow, addressFits, originFits, formatFits, fieldsFit, writeChecks, writeRefusal}

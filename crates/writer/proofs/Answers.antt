@@ -3,13 +3,13 @@ use Prim.Native.Nat.{ℕ, _+_}
 use mathlib.Core.Path.{_≡_, refl, sym, ap, _∙_}
 use mathlib.Core.List.{List, _++_}
 use lib.ListN.{length, drop}
-use Rattle.frame.specs.declared.refusal.Refusal.{Refusal}
-use Rattle.frame.specs.Refusals.{numberOf, verdictNumber}
-use Rattle.frame.proofs.First.{positive}
+use Rattle.refusal.specs.declared.Refusal.{Refusal}
+use Rattle.refusal.specs.Refusals.{numberOf, verdictNumber}
+use Rattle.refusal.proofs.First.{positive}
 use Rattle.writer.specs.declared.Sender.{Sender}
 use Rattle.writer.specs.declared.Written.the-variants.{Sent, Refused}
-use Rattle.frame.specs.declared.refusal.Verdict.{Verdict}
-use Rattle.frame.specs.declared.refusal.Verdict.the-variants as verdict
+use Rattle.refusal.specs.declared.Verdict.{Verdict}
+use Rattle.refusal.specs.declared.Verdict.the-variants as verdict
 use Rattle.writer.specs.declared.given.Given.{Given}
 use Rattle.writer.specs.Frames.{frameOf}
 use Rattle.writer.specs.Writing.{writeRefusal, next, told, writing, output}

@@ -2,7 +2,7 @@
 -- calls ensure and the tests on the way. Assumes nothing.
 use mathlib.Core.Path.{_≡_, sym, ap, _∙_}
 use mathlib.Core.Bool.{Bool, not}
-use Rattle.frame.proofs.First.{firsts}
+use Rattle.refusal.proofs.First.{firsts}
 
 -- a call answered r for the condition b, and the test found v
 pub yielded : (r b v : Bool) → r ≡ b → r ≡ v → b ≡ v

@@ -1,22 +1,22 @@
 -- Reading what was written gives what was given. Assumes nothing.
-use Prim.Native.Nat.{ℕ, _+_, _-_, _≤_}
-use mathlib.Core.Path.{_≡_, refl, ap, _∙_}
+use Prim.Native.Nat.{ℕ, zero, suc, _+_, _-_, _≤_}
+use mathlib.Core.Path.{_≡_, refl, sym, ap, _∙_}
 use mathlib.Core.Bool.{true, false}
 use mathlib.Core.List.{List, _++_}
 use native.Mathlib.Omega.{arith}
 use borrow.Author.Tests.{le-ltb}
-use lib.ListN.{length, drop, length-append}
-use lib.Seq.{take-append-seam}
+use lib.ListN.{length, take, drop, length-append}
+use lib.Seq.{take-append-seam, take-at}
 use Rattle.wire.specs.Bits.{Fit}
 use Rattle.wire.proofs.Numbers.{number-of}
 use Rattle.frame.specs.Layout.{vlanRow, validRow, uncertainRow, packetRow, sourceRow, fractionRow, formatRow, ethernetOf, avtpOf, streamOf, cipOf, headerOf, fieldsOf}
 use Rattle.frame.specs.Checks.{lengthChecks, ethernetChecks, avtpChecks, addressChecks, streamChecks, blockChecks, headerChecks, readChecks, frameChecks, refusal}
 use Rattle.frame.specs.Reading.{reading, payloadOf}
-use Rattle.frame.proofs.First.{none}
+use Rattle.refusal.proofs.First.{none}
 use Rattle.writer.specs.declared.Sender.{Sender}
 use Rattle.writer.specs.declared.given.Given.{Given}
 use Rattle.writer.specs.Frames.{vlanValues, validValues, uncertainValues, packetValues, sourceValues, fractionValues, formatValues, ethernetBytes, avtpBytes, streamBytes, sourceBytes, formatBytes, headerBytes, frameOf}
-use Rattle.writer.specs.Writing.{writeRefusal}
+use Rattle.writer.specs.Writing.{writeRefusal, next, outcome, writing, output}
 use Rattle.writer.specs.ReadBack.{SenderTyped, GivenTyped, fieldsWritten}
 use Rattle.writer.proofs.Accepted.{Accepted, accepted, fitting}
 use Rattle.writer.proofs.RowsBack.{bit-lt, row-back, flag-back}
@@ -29,6 +29,23 @@ a also b = (a, b)
 pub size : (s : Sender) (g : Given) (p : List ℕ) → length (frameOf s g p) ≡ 50 + length p
 unfolding ethernetBytes avtpBytes streamBytes sourceBytes formatBytes headerBytes frameOf
 size s g p = omega arith
+
+number-of-outcome : (n : ℕ) (before after : Sender) → outcome n before after .number ≡ n
+number-of-outcome zero before after = refl
+number-of-outcome (suc n) before after = refl
+
+module _ (s : Sender) (g : Given) (p out : List ℕ) where
+  -- a write that is answered 0 is one that no check refuses
+  pub no-refusal : writing s g p (length out) .number ≡ 0 → writeRefusal g (length p) (length out) ≡ 0
+  unfolding writing
+  no-refusal h = sym (number-of-outcome (writeRefusal g (length p) (length out)) s (next s g p)) ∙ h
+
+  pub output-of : writeRefusal g (length p) (length out) ≡ 0 → output s g p out ≡ frameOf s g p ++ drop (50 + length p) out
+  unfolding output
+  output-of e = rw e refl
+
+  pub written : writing s g p (length out) .number ≡ 0 → take (50 + length p) (output s g p out) ≡ frameOf s g p
+  written h = rw (output-of (no-refusal h)) (take-at (frameOf s g p) (drop (50 + length p) out) (50 + length p) (size s g p))
 
 behind-header : (s : Sender) (g : Given) (p padding : List ℕ) → drop 50 (frameOf s g p ++ padding) ≡ p ++ padding
 unfolding ethernetBytes avtpBytes streamBytes sourceBytes formatBytes headerBytes frameOf

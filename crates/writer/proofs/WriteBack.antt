@@ -14,15 +14,15 @@ use Rattle.wire.specs.Numbers.{bytes, part, numberAt}
 use Rattle.wire.proofs.Bits.{pack-unpack}
 use Rattle.frame.specs.Layout.{vlanRow, subtypeRow, validRow, uncertainRow, packetRow, sourceRow, fractionRow, formatRow, ethernetOf, avtpOf, streamOf, cipOf, headerOf, fieldsOf}
 use Rattle.frame.specs.declared.layout.Fields.{Fields}
-use Rattle.frame.specs.Refusals.{firstOf}
+use Rattle.refusal.specs.Refusals.{firstOf}
 use Rattle.frame.specs.Checks.{misaddressed, partialBlock, lengthChecks, ethernetChecks, avtpChecks, addressChecks, streamChecks, blockChecks, headerChecks, readChecks, frameChecks, refusal}
 use Rattle.frame.specs.Reading.{payloadOf}
-use Rattle.frame.proofs.First.{clear}
+use Rattle.refusal.proofs.First.{clear}
 use Rattle.frame.proofs.Groups.{accepted-room}
 use Rattle.writer.specs.Frames.{vlanValues, packetValues, sourceValues, fractionValues, formatValues, ethernetBytes, avtpBytes, streamBytes, sourceBytes, formatBytes, headerBytes, frameOf}
-use Rattle.writer.specs.Writing.{addressRow, addressFits, originFits, formatFits, fieldsFit, writeChecks, writeRefusal}
+use Rattle.writer.specs.Writing.{output, addressRow, addressFits, originFits, formatFits, fieldsFit, writeChecks, writeRefusal}
 use Rattle.writer.specs.WriteBack.{Plain, senderOf, givenOf}
-use Rattle.writer.proofs.ReadBack.{size}
+use Rattle.writer.proofs.ReadBack.{size, output-of}
 use Rattle.writer.proofs.Fits.{fit-true}
 use Rattle.writer.proofs.Parts.{cut, length-part, number-part-lt, bytes-part}
 use Rattle.writer.proofs.RowsBack.{bit-lt}
@@ -180,3 +180,10 @@ module _ (frame : List ℕ) (byte : (i : ℕ) → getD frame i 0 < 256) (ok : re
     write-bytes =
         let k = 50 + length (payloadOf frame) in
         sym (take-at (frameOf (senderOf (fieldsOf frame)) (givenOf (fieldsOf frame)) (payloadOf frame)) (drop k frame) k (size _ _ _)) ∙ ap (take k) whole
+
+    pub written : (out : List ℕ) → 50 + length (payloadOf frame) ≤ length out
+        → output (senderOf (fieldsOf frame)) (givenOf (fieldsOf frame)) (payloadOf frame) out ≡ take (50 + length (payloadOf frame)) frame ++ drop (50 + length (payloadOf frame)) out
+    written out h =
+        let n = length (payloadOf frame) in
+        let e = write-number (length out) ∙ ap (λ (b : Bool). cond b 35 0) (le-ltb (length out) (50 + n) h) in
+        output-of (senderOf (fieldsOf frame)) (givenOf (fieldsOf frame)) (payloadOf frame) out e ∙ ap (λ (l : List ℕ). l ++ drop (50 + n) out) write-bytes

@@ -3,13 +3,13 @@ use Prim.Native.Nat.{ℕ, _+_, _^_, _≤_, _<_}
 use mathlib.Core.Path.{_≡_}
 use mathlib.Core.Bool.{true, false}
 use mathlib.Core.List.{List, _++_}
-use lib.ListN.{length}
+use lib.ListN.{length, take}
 use Rattle.frame.specs.declared.layout.Fields.{Fields}
 use Rattle.frame.specs.Reading.{reading, payloadOf}
 use Rattle.writer.specs.declared.Sender.{Sender}
 use Rattle.writer.specs.declared.given.Given.{Given}
 use Rattle.writer.specs.Frames.{frameOf}
-use Rattle.writer.specs.Writing.{writeRefusal}
+use Rattle.writer.specs.Writing.{writeRefusal, writing, output}
 
 -- what the types of a sender and of the given fields say, beside what the checks of a write ask
 pub record SenderTyped (s : Sender) : Type 0 where
@@ -81,3 +81,6 @@ pub record ReadBack : Type 0 where
   pub payload : (s : Sender) (g : Given) (payload padding : List ℕ) (room : ℕ)
       → SenderTyped s → GivenTyped g → writeRefusal g (length payload) room ≡ 0 → length (frameOf s g payload ++ padding) ≤ 1518
       → payloadOf (frameOf s g payload ++ padding) ≡ payload
+  -- and it is what an accepted write leaves at the front of the output
+  pub written : (s : Sender) (g : Given) (payload out : List ℕ) → writing s g payload (length out) .number ≡ 0
+      → take (50 + length payload) (output s g payload out) ≡ frameOf s g payload

@@ -1,10 +1,10 @@
 -- Writing what was read gives the bytes that were read.
-use Prim.Native.Nat.{ℕ, _+_, _<_}
+use Prim.Native.Nat.{ℕ, _+_, _<_, _≤_}
 use mathlib.Core.Path.{_≡_}
 use mathlib.Core.Bool.{cond}
-use mathlib.Core.List.{List}
+use mathlib.Core.List.{List, _++_}
 use lib.Dec.{ltb}
-use lib.ListN.{length, getD, take}
+use lib.ListN.{length, getD, take, drop}
 use Rattle.wire.specs.Bits.{field}
 use Rattle.wire.specs.Numbers.{numberAt}
 use Rattle.frame.specs.declared.layout.Fields.{Fields}
@@ -14,7 +14,7 @@ use Rattle.frame.specs.Reading.{payloadOf}
 use Rattle.writer.specs.declared.Sender.{Sender}
 use Rattle.writer.specs.declared.given.Given.{Given}
 use Rattle.writer.specs.Frames.{frameOf}
-use Rattle.writer.specs.Writing.{writeRefusal}
+use Rattle.writer.specs.Writing.{writeRefusal, output}
 
 -- the bits that readers ignore hold what writers set: r and the reserved bits 0, tcode 10, the indicators 00 and 10
 pub record Plain (frame : List ℕ) : Type 0 where
@@ -71,3 +71,7 @@ pub record WriteBack : Type 0 where
       → writeRefusal (givenOf (fieldsOf frame)) (length (payloadOf frame)) room ≡ cond (ltb room (50 + length (payloadOf frame))) 35 0
   pub bytes : (frame : List ℕ) → ((i : ℕ) → getD frame i 0 < 256) → refusal frame ≡ 0 → Plain frame
       → frameOf (senderOf (fieldsOf frame)) (givenOf (fieldsOf frame)) (payloadOf frame) ≡ take (50 + length (payloadOf frame)) frame
+  -- so a write with room for it leaves the frame up to its padding at the front of the output
+  pub written : (frame out : List ℕ) → ((i : ℕ) → getD frame i 0 < 256) → refusal frame ≡ 0 → Plain frame → 50 + length (payloadOf frame) ≤ length out
+      → output (senderOf (fieldsOf frame)) (givenOf (fieldsOf frame)) (payloadOf frame) out
+      ≡ take (50 + length (payloadOf frame)) frame ++ drop (50 + length (payloadOf frame)) out

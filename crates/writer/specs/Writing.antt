@@ -5,7 +5,7 @@ use mathlib.Core.List.{List, [], _∷_, _++_}
 use lib.ListN.{length, drop}
 use lib.Dec.{ltb}
 use Rattle.frame.specs.Layout.{vlanRow, packetRow, sourceRow, fractionRow, formatRow}
-use Rattle.frame.specs.Refusals.{numberOf, Check, _answers_, firstOf}
+use Rattle.refusal.specs.Refusals.{numberOf, Check, _answers_, firstOf}
 use Rattle.frame.specs.Checks.{misaddressed, partialBlock}
 use Rattle.frame.specs.Reading.{blocksOf}
 use Rattle.writer.specs.declared.Sender.{Sender}

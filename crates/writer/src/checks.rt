@@ -3,11 +3,11 @@ use crate::given::Address;
 use crate::given::Format;
 use crate::given::Given;
 use crate::given::Origin;
-use frame::refusal::Refusal;
-use frame::refusal::Verdict;
+use refusal::Refusal;
+use refusal::Verdict;
 ghost use mathlib.Core.Path.{_≡_};
 ghost use Rattle.writer.specs.Writing.{addressFits, originFits, formatFits, fieldsFit, writeRefusal};
-ghost use Rattle.frame.specs.Refusals.{verdictNumber};
+ghost use Rattle.refusal.specs.Refusals.{verdictNumber};
 
 fn address_fits(a: Address) -> bool
     ensures { λ r. ⌜ r ≡ addressFits a ⌝ }

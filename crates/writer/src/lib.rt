@@ -4,9 +4,9 @@ pub mod given;
 mod output;
 mod rows;
 
-use frame::refusal::Refusal;
-use frame::refusal::Verdict;
 use given::Given;
+use refusal::Refusal;
+use refusal::Verdict;
 ghost use mathlib.Core.Path.{_≡_};
 ghost use Prim.Native.Nat.{_≤_};
 ghost use lib.ListN.{length};

@@ -110,7 +110,7 @@ fn shown(name: &[u8], sender: Sender, given: Given, payload: &[u8], out: &mut [u
             next
         }
         Written::Refused(refusal, kept) => {
-            answer(frame::refusal::number(refusal), kept);
+            answer(refusal::number(refusal), kept);
             refused(out);
             kept
         }

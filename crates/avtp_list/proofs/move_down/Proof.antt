@@ -1,18 +1,54 @@
-use Prim.Native.Nat.{_≤_, _-_}
-use mathlib.Core.Path.{_≡_}
-use lib.ListN.{length}
+use Prim.Native.Nat.{ℕ, suc, _+_, _≤_, _<_, _-_}
+use mathlib.Core.Path.{_≡_, refl, sym, ap, _∙_}
+use mathlib.Core.List.{List, [], _∷_}
+use native.Mathlib.Omega.{arith}
+use mathlib.Core.List.{_++_}
+use lib.ListN.{length, take, drop, getD, set, length-drop, length-set}
+use lib.Seq.{sets, getD-set-other, getD-drop, length-take-le, sets-eq, take-append-seam}
+use denote.Ref.{now}
 use borrow.Author.Needs.{needs}
+use Rattle.lines.proofs.Puts.{sets-more}
 use Rattle.avtp_list.proofs.move_down.Statement.{statement}
 use Rattle.avtp_list.proofs.move_down.Tie as tie
 
+-- past a text a buffer is as it was
+past-text : (vs d : List ℕ) (k i : ℕ) → k + length vs ≤ i → getD (sets d k vs) i 0 ≡ getD d i 0
+past-text [] d k i h = refl
+past-text (a ∷ vs) d k i h = past-text vs (set d k a) (suc k) i (omega arith) ∙ getD-set-other d k i a 0 (λ e. absurd (omega arith))
+
+module _ (d : List ℕ) (from : ℕ) where
+  moved : (i : ℕ) (x : List ℕ) → from ≤ i → i < length d → x ≡ sets d 0 (take (i - from) (drop from d)) → set x (i - from) (getD x i 0) ≡ sets d 0 (take (i + 1 - from) (drop from d))
+  moved i x low h e =
+      let l = length-drop from d in
+      let short : i - from < length (drop from d) = omega arith in
+      let len : length (take (i - from) (drop from d)) ≡ i - from = length-take-le (i - from) (drop from d) (omega arith) in
+      let place : i ≡ from + (i - from) = omega arith in
+      let read : getD x i 0 ≡ getD (drop from d) (i - from) 0 =
+      ap (λ (y : List ℕ). getD y i 0) e ∙ past-text (take (i - from) (drop from d)) d 0 i (omega arith) ∙ ap (λ (n : ℕ). getD d n 0) place ∙ sym (getD-drop from d (i - from) 0) in
+      let zero : i - from ≡ 0 + (i - from) = omega arith in
+      let one : i - from + 1 ≡ i + 1 - from = omega arith in
+      ap (λ (v : ℕ). set x (i - from) v) read ∙ ap (λ (y : List ℕ). set y (i - from) (getD (drop from d) (i - from) 0)) e
+      ∙ ap (λ (k : ℕ). set (sets d 0 (take (i - from) (drop from d))) k (getD (drop from d) (i - from) 0)) zero ∙ sets-more d 0 (drop from d) (i - from) short ∙ ap (λ (n : ℕ). sets d 0 (take n (drop from d))) one
+
+  in-front : (n : ℕ) → from + n ≤ length d → take n (sets d 0 (take n (drop from d))) ≡ take n (drop from d)
+  in-front n h =
+      let l = length-drop from d in
+      let len : length (take n (drop from d)) ≡ n = length-take-le n (drop from d) (omega arith) in
+      ap (take n) (sets-eq (take n (drop from d)) d 0 (omega arith))
+      ∙ ap (λ (m : ℕ). take m (take n (drop from d) ++ drop (0 + length (take n (drop from d))) d)) (sym len)
+      ∙ take-append-seam (take n (drop from d)) _
+
 abbrev Inv-loop : tie.InvT-loop
-Inv-loop input₀ from have i₀ input i = (from ≤ i) × (i ≤ have) × (length input ≡ length input₀)
+Inv-loop input₀ from have i₀ input i = (from ≤ i) × (i ≤ have) × (length input ≡ length input₀) × (input ≡ sets input₀ 0 (take (i - from) (drop from input₀)))
 
 abbrev μ-loop : tie.MeasureT-loop
 μ-loop input₀ from have i₀ input i = have - i
 
 loop-holds : tie.Need-loop-holds Inv-loop μ-loop
-loop-holds c = search needs
+loop-holds c =
+    let a = c .args in
+    let z : 0 ≡ a .from - a .from = omega arith in
+    (search needs, c .pre .0, refl, ap (λ (n : ℕ). sets (now (a .input)) 0 (take n (drop (a .from) (now (a .input))))) z)
 
 slice-read-input : tie.Need-slice-read-input Inv-loop μ-loop
 slice-read-input c = search needs
@@ -30,13 +66,20 @@ loop-less : tie.Need-loop-less Inv-loop μ-loop
 loop-less c = search needs
 
 loop-again : tie.Need-loop-again Inv-loop μ-loop
-loop-again c = search needs
+loop-again c =
+    let l = c .before .before .loop in
+    let a = c .before .before .before .args in
+    (omega arith, omega arith, simp length-set (l .inv .2), moved (now (a .input)) (a .from) (l .i) (l .input) (l .inv .0) (omega arith) (l .inv .3))
 
 same-length : tie.Need-same-length Inv-loop μ-loop
 same-length c = search needs
 
 returns : tie.Need-returns Inv-loop μ-loop
-returns c = search needs
+returns c =
+    let l = c .before .loop in
+    let a = c .before .before .args in
+    let e : l .i ≡ a .have = omega arith in
+    ap (take (a .have - a .from)) (l .inv .3 ∙ ap (λ (i : ℕ). sets (now (a .input)) 0 (take (i - a .from) (drop (a .from) (now (a .input))))) e) ∙ in-front (now (a .input)) (a .from) (a .have - a .from) (omega arith)
 
 pub move-down-spec : {M : Type 1} → statement M
 move-down-spec =

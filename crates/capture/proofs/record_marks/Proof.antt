@@ -1,5 +1,5 @@
 use mathlib.Core.Path.{refl}
-use Rattle.frame.specs.Refusals.{firstOf}
+use Rattle.refusal.specs.Refusals.{firstOf}
 use Rattle.capture.specs.Records.{lengthOf, kindOf, wrongLength, unknownKind, entryOf}
 use Rattle.capture.proofs.record_marks.Statement.{statement}
 use Rattle.capture.proofs.record_marks.Tie as tie

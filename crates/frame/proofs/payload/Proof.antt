@@ -1,8 +1,9 @@
-use mathlib.Core.Path.{_∙_}
+use mathlib.Core.Path.{_∙_, refl}
+use native.Mathlib.Omega.{arith}
 use denote.Ref.{now}
 use borrow.Author.Needs.{needs}
 use Rattle.frame.specs.Reading.{payloadOf}
-use Rattle.frame.proofs.First.{positive}
+use Rattle.refusal.proofs.First.{positive}
 use Rattle.frame.proofs.Answers.{refused-number, accepted-payload}
 use Rattle.frame.proofs.payload.Statement.{statement}
 use Rattle.frame.proofs.payload.Tie as tie
@@ -12,12 +13,12 @@ unfolding payloadOf
 returns c =
     let told = c .before .enum-told .given in
     let p = positive (told .0 .0) in
-    rw (refused-number (now (c .before .before .before .before .before .args .frame)) (c .before .before .before .read .ensures) (told .1), p .1)
+    (rw (refused-number (now (c .before .before .before .before .before .args .frame)) (c .before .before .before .read .ensures) (told .1), p .1), (refl, λ h. absurd (omega arith)))
 
 returns-2 : tie.Need-returns-2
 returns-2 c =
     let read = c .before .before .before .before in
-    c .«data» .ensures ∙ accepted-payload (now (read .before .before .args .frame)) (read .read .ensures) (c .before .before .fields .given .1)
+    (c .«data» .ensures .0 ∙ accepted-payload (now (read .before .before .args .frame)) (read .read .ensures) (c .before .before .fields .given .1), c .«data» .ensures .1)
 
 pub payload-spec : {M : Type 1} → statement M
 payload-spec =

@@ -1,4 +1,4 @@
-use Rattle.frame.specs.Refusals.{verdictNumber}
+use Rattle.refusal.specs.Refusals.{verdictNumber}
 use Prim.Native.Nat.{_+_, _≤_}
 use mathlib.Core.Path.{sym, ap, _∙_}
 use native.Mathlib.Omega.{arith}

@@ -22,7 +22,7 @@ returns-2 c =
     let done = c .before .before in
     let asked = done .before .before in
     let a = asked .before .before .before .args in
-    written (now (a .out)) (a .at) (asked .before .roomy .ensures) (asked .if1 .left) (done .put-last .ensures .0) (done .put-last .ensures .1)
+    written (now (a .out)) (a .at) (asked .before .roomy .ensures) (asked .if1 .left) (done .put-last .ensures .0) (omega (arith, done .put-last .ensures .1))
 
 pub put-end-spec : {M : Type 1} → statement M
 put-end-spec =

@@ -1,5 +1,5 @@
 use mathlib.Core.Path.{refl}
-use Rattle.frame.specs.Refusals.{firstOf}
+use Rattle.refusal.specs.Refusals.{firstOf}
 use Rattle.frame.specs.Layout.{ethernetOf, avtpOf, streamOf, cipOf, headerOf, fieldsOf}
 use Rattle.frame.specs.Checks.{misaddressed, blockBytes, lengthChecks, ethernetChecks, avtpChecks, addressChecks, streamChecks, blockChecks, headerChecks, readChecks, frameChecks, refusal}
 use Rattle.frame.specs.Reading.{payloadOf, blocksOf}

@@ -1,6 +1,6 @@
 use mathlib.Core.Path.{refl}
 use Rattle.frame.specs.Layout.{fieldsOf, headerOf, ethernetOf, avtpOf, streamOf, cipOf}
-use Rattle.frame.specs.Refusals.{firstOf}
+use Rattle.refusal.specs.Refusals.{firstOf}
 use Rattle.frame.specs.Checks.{misaddressed, blockBytes, lengthChecks, ethernetChecks, avtpChecks, addressChecks, streamChecks, blockChecks, headerChecks, readChecks, frameChecks, refusal}
 use Rattle.frame.specs.Reading.{payloadOf, blocksOf}
 use Rattle.presentation.specs.Offset.{offset}

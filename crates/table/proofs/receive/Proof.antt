@@ -43,30 +43,30 @@ use denote.Triple.Statement.{Triple}
 use denote.Triple.Table.{entered, cited}
 use denote.Triple.Walked.{says, Stays, stay-none, stay-none-slice, stay-slice, walkOf, goes-none, goes-none-slice, goes-slice, Walks, ends-at, walked, walk-meets}
 use denote.Exit.{yes}
-use Rattle.frame.specs.declared.refusal.Refusal.the-variants.{NotAdmitted}
+use Rattle.refusal.specs.declared.Refusal.the-variants.{NotAdmitted}
 use Rattle.frame.specs.declared.layout.Fields.{Fields}
 use Rattle.frame.specs.declared.Reading.{Reading}
 use Rattle.frame.specs.declared.Reading.the-variants as reading
-use Rattle.frame.proofs.refusal.Refusal as N
-use Rattle.frame.proofs.refusal.Refusal.Laws as N′
+use Rattle.refusal.proofs.Refusal as N
+use Rattle.refusal.proofs.Refusal.Laws as N′
 use Rattle.frame.proofs.layout.Fields as U
 use Rattle.frame.proofs.layout.Fields.Laws as U′
 use Rattle.frame.proofs.Reading as G
 use Rattle.frame.proofs.Reading.Laws as G′
 use Rattle.stream.specs.declared.Record.{Record}
-use Rattle.stream.specs.declared.Served.{Served}
+use Rattle.table.specs.declared.Served.{Served}
 use Rattle.stream.specs.declared.Receipt.{Receipt}
 use Rattle.stream.specs.declared.Receipt.the-variants.{Refused}
-use Rattle.stream.specs.Step.{served}
+use Rattle.table.specs.Private.{served}
 use Rattle.stream.proofs.Record as T
 use Rattle.stream.proofs.Record.Laws as T′
-use Rattle.stream.proofs.Served as S
-use Rattle.stream.proofs.Served.Laws as S′
+use Rattle.table.proofs.Served as S
+use Rattle.table.proofs.Served.Laws as S′
 use Rattle.stream.proofs.Receipt as P
 use Rattle.stream.proofs.Receipt.Laws as P′
-use Rattle.stream.proofs.serve.Symbol as serve-def
-use Rattle.stream.proofs.serve.Symbol.{name as #stream·serve}
-use Rattle.stream.proofs.serve.Met as serve-thm
+use Rattle.table.proofs.serve.Symbol as serve-def
+use Rattle.table.proofs.serve.Symbol.{name as #table·serve}
+use Rattle.table.proofs.serve.Met as serve-thm
 use Rattle.table.specs.declared.Found.{Found}
 use Rattle.table.specs.declared.Found.the-variants.{At, Nothing}
 use Rattle.table.specs.declared.Wanted.{Wanted}
@@ -163,7 +163,7 @@ module _ {M : Type 1} (𝓤 : URA M) (H : Heap 𝓤) (A : Atoms 𝓤) (W : Given
       owned ! P.the-row (Is P.the-row) (EL.makes P.the-type P′.the-plain 𝓤 H A) r _ ok $ done !
 
   module _ (C : Calls 𝓤 H) (Λ : Loops 𝓤 H) (fm : FmC 𝓤 H (W .laws) C)
-      (known-read-for : Triple 𝓤 (C #table·read-for) (ReadFor 𝓤 H A mem run)) (known-find : Triple 𝓤 (C #table·find) (Find 𝓤 H A mem run)) (known-get : Triple 𝓤 (C #table·get) (Get 𝓤 H A mem run)) (known-serve : Triple 𝓤 (C #stream·serve) (Serve 𝓤 H A mem run)) (known-put : Triple 𝓤 (C #table·put) (Put 𝓤 H A mem run))
+      (known-read-for : Triple 𝓤 (C #table·read-for) (ReadFor 𝓤 H A mem run)) (known-find : Triple 𝓤 (C #table·find) (Find 𝓤 H A mem run)) (known-get : Triple 𝓤 (C #table·get) (Get 𝓤 H A mem run)) (known-serve : Triple 𝓤 (C #table·serve) (Serve 𝓤 H A mem run)) (known-put : Triple 𝓤 (C #table·put) (Put 𝓤 H A mem run))
       (room : Room T.the-row (length ys)) (room₁ : Room u8 (length (y .now))) where
     module _ (l₀ l₁ l₂ l₃ l₄ l₅ l₆ l₇ l₈ l₉ l₁₀ l₁₁ l₁₂ l₁₃ l₁₄ l₁₅ l₁₆ l₁₇ l₁₈ l₁₉ l₂₀ l₂₁ l₂₂ : ℕ) where
       abbrev E : Env 𝓤 H
@@ -322,7 +322,7 @@ module _ {M : Type 1} (𝓤 : URA M) (H : Heap 𝓤) (A : Atoms 𝓤) (W : Given
         body l₀ l₁ l₂ l₃ l₄ l₅ l₆ l₇ l₈ l₉ l₁₀ l₁₁ l₁₂ l₁₃ l₁₄ l₁₅ l₁₆ l₁₇ l₁₈ l₁₉ l₂₀ l₂₁ l₂₂)))))))))))))))))))))))
 
 module _ {M : Type 1} (𝓤 : URA M) (H : Heap 𝓤) (A : Atoms 𝓤) (W : Given 𝓤 H A) (mem : Memory → SProp 𝓤) (run : Routine → Fun 𝓤) (𝓣 : Tables 𝓤 H)
-    (known-read-for : Triple 𝓤 (𝓣 .C #table·read-for) (ReadFor 𝓤 H A mem run)) (known-find : Triple 𝓤 (𝓣 .C #table·find) (Find 𝓤 H A mem run)) (known-get : Triple 𝓤 (𝓣 .C #table·get) (Get 𝓤 H A mem run)) (known-serve : Triple 𝓤 (𝓣 .C #stream·serve) (Serve 𝓤 H A mem run)) (known-put : Triple 𝓤 (𝓣 .C #table·put) (Put 𝓤 H A mem run)) where
+    (known-read-for : Triple 𝓤 (𝓣 .C #table·read-for) (ReadFor 𝓤 H A mem run)) (known-find : Triple 𝓤 (𝓣 .C #table·find) (Find 𝓤 H A mem run)) (known-get : Triple 𝓤 (𝓣 .C #table·get) (Get 𝓤 H A mem run)) (known-serve : Triple 𝓤 (𝓣 .C #table·serve) (Serve 𝓤 H A mem run)) (known-put : Triple 𝓤 (𝓣 .C #table·put) (Put 𝓤 H A mem run)) where
   this-walks : Walks 𝓤 H A this.ended stayed (WpFn 𝓤 H (𝓣 .C) (𝓣 .Λ) code.function) (this.clauses 𝓤 H A mem run)
   this-walks = walked 𝓤 H A this.ended stayed (this.clauses 𝓤 H A mem run) (WpFn 𝓤 H (𝓣 .C) (𝓣 .Λ) code.function) (λ κs. (slice-vals, (slice-vals, (uint-vals w64, tt))))
       (λ κs. (mut-slice-tells (named 0) (κs .0) T.the-row, (shr-slice-tells (named 1) (κs .1 .0) u8, (uint-tells w64, tt))))
@@ -342,5 +342,5 @@ receive-spec 𝓤 H 𝓜 𝓖 𝓡 =
     (cited 𝓤 H (ReadFor 𝓤 H (𝓖 .A) (𝓜 .mem) (𝓡 .run)) 𝓜 𝓡 code.env #table·read-for read-for-def.routine code.calls-table·read-for (read-for-thm.met 𝓤 H 𝓜 𝓖 𝓡))
     (cited 𝓤 H (Find 𝓤 H (𝓖 .A) (𝓜 .mem) (𝓡 .run)) 𝓜 𝓡 code.env #table·find find-def.routine code.calls-table·find (find-thm.met 𝓤 H 𝓜 𝓖 𝓡))
     (cited 𝓤 H (Get 𝓤 H (𝓖 .A) (𝓜 .mem) (𝓡 .run)) 𝓜 𝓡 code.env #table·get get-def.routine code.calls-table·get (get-thm.met 𝓤 H 𝓜 𝓖 𝓡))
-    (cited 𝓤 H (Serve 𝓤 H (𝓖 .A) (𝓜 .mem) (𝓡 .run)) 𝓜 𝓡 code.env #stream·serve serve-def.routine code.calls-stream·serve (serve-thm.met 𝓤 H 𝓜 𝓖 𝓡))
+    (cited 𝓤 H (Serve 𝓤 H (𝓖 .A) (𝓜 .mem) (𝓡 .run)) 𝓜 𝓡 code.env #table·serve serve-def.routine code.calls-table·serve (serve-thm.met 𝓤 H 𝓜 𝓖 𝓡))
     (cited 𝓤 H (Put 𝓤 H (𝓖 .A) (𝓜 .mem) (𝓡 .run)) 𝓜 𝓡 code.env #table·put put-def.routine code.calls-table·put (put-thm.met 𝓤 H 𝓜 𝓖 𝓡)))

@@ -40,7 +40,6 @@ use denote.Triple.Statement.{Triple}
 use denote.Triple.Table.{entered, cited}
 use denote.Triple.Walked.{says, Stays, stay-none, stay-none-slice, walkOf, goes-none, goes-none-slice, Walks, ends-at, walked, walk-meets}
 use denote.Exit.{yes}
-use Rattle.frame.specs.Reading.{payloadOf}
 use Rattle.stream.specs.declared.Record.{Record}
 use Rattle.stream.specs.declared.Receipt.{Receipt}
 use Rattle.stream.specs.Answers.{told}
@@ -100,7 +99,7 @@ module _ {M : Type 1} (𝓤 : URA M) (H : Heap 𝓤) (A : Atoms 𝓤) (W : Given
 
   -- what the receipt says
   abbrev Said : Receipt → Type 0
-  Said r = told r (payloadOf (y .now)) ≡ receive ys (y .now) L .0
+  Said r = told r (y .now) ≡ receive ys (y .now) L .0
 
   exits : (r : Receipt) → Said r → Is Whole zs (machA zs ∷ []) → Is P.the-row r (machP r ∷ []) → ent 𝓤 (mean 𝓤 H A (Fr ⊛ FrTok)) (Post (beside zs (machP r)))
   exits r said ok ok-r =

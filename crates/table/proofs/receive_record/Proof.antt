@@ -42,11 +42,11 @@ use denote.Triple.Table.{entered, cited}
 use denote.Triple.Walked.{says, Stays, stay-ref, stay-none, stay-none-slice, walkOf, goes-none, goes-none-slice, goes-ref, Walks, ends-at, walked, walk-meets}
 use denote.Exit.{yes}
 use Rattle.stream.specs.declared.Record.{Record}
-use Rattle.stream.specs.declared.Served.{Served}
+use Rattle.table.specs.declared.Served.{Served}
 use Rattle.stream.proofs.Record as T
 use Rattle.stream.proofs.Record.Laws as T′
-use Rattle.stream.proofs.Served as S
-use Rattle.stream.proofs.Served.Laws as S′
+use Rattle.table.proofs.Served as S
+use Rattle.table.proofs.Served.Laws as S′
 use Rattle.stream.proofs.Receipt as P
 use Rattle.stream.proofs.Receipt.Laws as P′
 use Rattle.table.proofs.Receiving.{ReceivesAlone}

@@ -41,8 +41,8 @@ use denote.Triple.Statement.{Triple}
 use denote.Triple.Table.{entered, cited}
 use denote.Triple.Walked.{says, needs, Stays, stay-none, stay-slice, walkOf, goes-none, goes-slice, Walks, ends-at, walked, walk-meets}
 use denote.Exit.{yes}
-use Rattle.frame.proofs.refusal.Refusal as N
-use Rattle.frame.proofs.refusal.Refusal.Laws as N′
+use Rattle.refusal.proofs.Refusal as N
+use Rattle.refusal.proofs.Refusal.Laws as N′
 use Rattle.stream.specs.declared.Record.{Record}
 use Rattle.stream.proofs.Record as T
 use Rattle.stream.proofs.Record.Laws as T′

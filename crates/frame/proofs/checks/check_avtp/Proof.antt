@@ -1,6 +1,6 @@
-use Rattle.frame.specs.Refusals.{firstOf}
+use Rattle.refusal.specs.Refusals.{firstOf}
 use Rattle.frame.specs.Checks.{avtpChecks}
-use Rattle.frame.proofs.First.{firsts}
+use Rattle.refusal.proofs.First.{firsts}
 use Rattle.frame.proofs.checks.check_avtp.Statement.{statement}
 use Rattle.frame.proofs.checks.check_avtp.Tie as tie
 

@@ -1,6 +1,6 @@
 use mathlib.Core.Path.{sym, _∙_}
 use borrow.Author.Needs.{needs}
-use Rattle.frame.specs.Refusals.{firstOf}
+use Rattle.refusal.specs.Refusals.{firstOf}
 use Rattle.frame.specs.Checks.{blockChecks}
 use Rattle.frame.proofs.checks.check_blocks.Statement.{statement}
 use Rattle.frame.proofs.checks.check_blocks.Tie as tie

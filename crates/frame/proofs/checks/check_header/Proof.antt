@@ -1,5 +1,5 @@
 use borrow.Author.Needs.{needs}
-use Rattle.frame.proofs.First.{groups}
+use Rattle.refusal.proofs.First.{groups}
 use Rattle.frame.proofs.Groups.{header-then}
 use Rattle.frame.proofs.checks.check_header.Statement.{statement}
 use Rattle.frame.proofs.checks.check_header.Tie as tie

@@ -1,7 +1,7 @@
 use borrow.Author.Needs.{needs}
-use Rattle.frame.specs.Refusals.{firstOf}
+use Rattle.refusal.specs.Refusals.{firstOf}
 use Rattle.frame.specs.Checks.{streamChecks}
-use Rattle.frame.proofs.First.{firsts}
+use Rattle.refusal.proofs.First.{firsts}
 use Rattle.frame.proofs.checks.check_stream.Statement.{statement}
 use Rattle.frame.proofs.checks.check_stream.Tie as tie
 

@@ -39,9 +39,9 @@ use denote.Triple.Statement.{Triple}
 use denote.Triple.Table.{entered, cited}
 use denote.Triple.Walked.{says, Stays, stay-none, stay-none-slice, stay-slice, walkOf, goes-none, goes-none-slice, goes-slice, Walks, ends-at, walked, walk-meets}
 use denote.Exit.{yes}
-use Rattle.frame.specs.declared.refusal.Refusal.the-variants.{RecordCut}
-use Rattle.frame.proofs.refusal.Refusal as N
-use Rattle.frame.proofs.refusal.Refusal.Laws as N′
+use Rattle.refusal.specs.declared.Refusal.the-variants.{RecordCut}
+use Rattle.refusal.proofs.Refusal as N
+use Rattle.refusal.proofs.Refusal.Laws as N′
 use Rattle.capture.specs.declared.Entry.{Entry}
 use Rattle.capture.specs.declared.Entry.the-variants as entry
 use Rattle.capture.specs.Records.{told}

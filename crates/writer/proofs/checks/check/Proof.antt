@@ -1,5 +1,5 @@
 use borrow.Author.Needs.{needs}
-use Rattle.frame.specs.Refusals.{firstOf}
+use Rattle.refusal.specs.Refusals.{firstOf}
 use Rattle.writer.specs.Writing.{writeChecks, writeRefusal}
 use Rattle.writer.proofs.Asked.{asked}
 use Rattle.writer.proofs.checks.check.Statement.{statement}

@@ -1,6 +1,6 @@
 // Every reason for which a call of the analyser answers a number of document 01.
 ghost use mathlib.Core.Path.{_≡_};
-ghost use Rattle.frame.specs.Refusals.{numberOf};
+ghost use Rattle.refusal.specs.Refusals.{numberOf};
 
 pub enum Refusal {
     // Reading a frame: 1 to 15.

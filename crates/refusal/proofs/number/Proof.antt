@@ -1,8 +1,8 @@
 use mathlib.Core.Path.{ap, sym}
 use borrow.Author.Needs.{needs}
-use Rattle.frame.specs.Refusals.{numberOf}
-use Rattle.frame.proofs.refusal.number.Statement.{statement}
-use Rattle.frame.proofs.refusal.number.Tie as tie
+use Rattle.refusal.specs.Refusals.{numberOf}
+use Rattle.refusal.proofs.number.Statement.{statement}
+use Rattle.refusal.proofs.number.Tie as tie
 
 pub number-spec : {M : Type 1} → statement M
 number-spec =
