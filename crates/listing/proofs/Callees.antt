@@ -42,8 +42,8 @@ use Rattle.table.specs.Table.{changeNumber, receive}
 use Rattle.table.proofs.Change as Y
 use Rattle.table.proofs.Change.Laws as Y′
 use Rattle.table.proofs.Machine.{machP, machY}
-use Rattle.table.proofs.Calls.{some-said}
-use Rattle.table.proofs.Lending.{Token, Mine}
+use Rattle.walks.proofs.Calls.{some-said}
+use Rattle.walks.proofs.Lending.{Token, Mine}
 use Rattle.table.proofs.receive as receiving
 use Rattle.table.proofs.admit as admitting
 use Rattle.table.proofs.Callees.{Changer, Answers}
@@ -53,7 +53,7 @@ use Rattle.listing.specs.Listing.{changeLine}
 use Rattle.lines.specs.Writing.{roomy}
 use Rattle.lines.proofs.Outcome as O
 use Rattle.lines.proofs.Outcome.Laws as O′
-use Rattle.listing.proofs.Lent.{kept-said}
+use Rattle.walks.proofs.Lent.{kept-said}
 use Rattle.listing.proofs.Obeying.{ReceiptLine}
 use Rattle.listing.proofs.chunk.front_of as front-of
 use Rattle.listing.proofs.chunk.frame_at as frame-at

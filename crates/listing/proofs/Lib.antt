@@ -1,9 +1,7 @@
 pub mod Bound
 pub mod InChunks
 pub mod Chunks
-pub mod Lent
 pub mod Obeying
 pub mod Callees
 pub mod Turns
 pub mod Turning
-pub mod Local

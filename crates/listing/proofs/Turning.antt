@@ -34,7 +34,7 @@ use Rattle.capture.proofs.Entry as I
 use Rattle.capture.proofs.Entry.Laws as I′
 use Rattle.stream.specs.declared.Record.{Record}
 use Rattle.stream.proofs.Record as T
-use Rattle.table.proofs.Lending.{Token, Mine}
+use Rattle.walks.proofs.Lending.{Token, Mine}
 use Rattle.lines.specs.declared.Outcome.{Outcome}
 use Rattle.listing.specs.declared.chunk.Progress.{Progress}
 use Rattle.lines.specs.Lines.{lineOf, lineText}

@@ -50,8 +50,8 @@ use Rattle.table.proofs.Changed as D
 use Rattle.table.proofs.Changed.Laws as D′
 use Rattle.table.proofs.Machine.{machY}
 use Rattle.table.proofs.Whole.{Whole, machA, tells-whole, whole-length, whole-room, beside, is-changed}
-use Rattle.table.proofs.LocalArray.{calls-with-array}
-use Rattle.table.proofs.Locals.{Slots, freed}
+use Rattle.walks.proofs.LocalArray.{calls-with-array}
+use Rattle.walks.proofs.Locals.{Slots, freed}
 use Rattle.table.proofs.Callees.{Answers, Changer, to-changer, goes-changer, changer-is}
 -- `remove_in` has the same signature
 use Rattle.table.proofs.admit_in as either

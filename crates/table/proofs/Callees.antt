@@ -43,8 +43,8 @@ use Rattle.table.specs.declared.Change.{Change}
 use Rattle.table.specs.Table.{at, receive, changeNumber}
 use Rattle.table.specs.Private.{wants, find, readingFor, placeToAdmit, placeToRemove, changeOf}
 use Rattle.table.proofs.Machine.{machR, machU, machF, machQ, machX}
-use Rattle.table.proofs.Calls.{is-said, some-said}
-use Rattle.table.proofs.Lending.{is-last, some-last}
+use Rattle.walks.proofs.Calls.{is-said, some-said}
+use Rattle.walks.proofs.Lending.{is-last, some-last}
 use Rattle.table.proofs.Receiving.{Receives, ReceivesAlone}
 use Rattle.table.proofs.Changing.{Fits, changedAt}
 use Rattle.frame.proofs.layout.Fields as U

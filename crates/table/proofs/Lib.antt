@@ -1,10 +1,3 @@
-pub mod Calls
-pub mod Relending
-pub mod Sharing
-pub mod Lending
-pub mod LocalArray
-pub mod Locals
-pub mod Pieces
 pub mod Machine
 pub mod Whole
 pub mod Callees

@@ -55,9 +55,9 @@ use Rattle.table.proofs.Found.Laws as F′
 use Rattle.table.proofs.Wanted as Q
 use Rattle.table.proofs.Wanted.Laws as Q′
 use Rattle.table.proofs.Machine.{machR, machF, machQ}
-use Rattle.table.proofs.Calls.{calls-is}
-use Rattle.table.proofs.Pieces.{rest-of}
-use Rattle.table.proofs.Locals.{Slots, freed}
+use Rattle.walks.proofs.Calls.{calls-is}
+use Rattle.walks.proofs.Pieces.{rest-of}
+use Rattle.walks.proofs.Locals.{Slots, freed}
 use Rattle.table.proofs.Searched.{findFrom, at-first, stops-at, passes-by, ends-there}
 use Rattle.table.proofs.Callees.{IsWanted, to-is-wanted, goes-is-wanted, is-wanted-is, Get, Shr, Alive, to-get, goes-get, get-is}
 use Rattle.table.proofs.get.Symbol as get-def

@@ -78,10 +78,10 @@ use Rattle.table.proofs.Found.Laws as F′
 use Rattle.table.proofs.Wanted as Q
 use Rattle.table.proofs.Wanted.Laws as Q′
 use Rattle.table.proofs.Machine.{machR, machS, machP, machN, machU, machG, machQ, machF, after-field, after-part, receipt-field, receipt-part, of-after, of-receipt, of-stream}
-use Rattle.table.proofs.Calls.{calls-is, calls-some}
-use Rattle.table.proofs.Lending.{Mine, calls-sharing, calls-lending}
-use Rattle.table.proofs.Locals.{Slots, freed}
-use Rattle.table.proofs.Pieces.{first-of, rest-of, arm-of}
+use Rattle.walks.proofs.Calls.{calls-is, calls-some}
+use Rattle.walks.proofs.Lending.{Mine, calls-sharing, calls-lending}
+use Rattle.walks.proofs.Locals.{Slots, freed}
+use Rattle.walks.proofs.Pieces.{first-of, rest-of, arm-of}
 use Rattle.table.proofs.Searched.{found-within}
 use Rattle.table.proofs.Receiving.{Receives, receives-refused, receives-unadmitted, receives-served}
 use Rattle.table.proofs.Callees.{Get, to-get, goes-get, get-is, Find, to-find, goes-find, find-is, Put, to-put, goes-put, put-is, Frame, FrameAlive, ReadFor, ReadForSaid, to-read-for, goes-read-for, read-for-is, Serve, to-serve, goes-serve, serve-is}

@@ -52,8 +52,8 @@ use Rattle.table.proofs.Received as B
 use Rattle.table.proofs.Received.Laws as B′
 use Rattle.table.proofs.Machine.{machP}
 use Rattle.table.proofs.Whole.{Whole, machA, tells-whole, whole-length, whole-room, beside, is-received}
-use Rattle.table.proofs.LocalArray.{calls-with-array}
-use Rattle.table.proofs.Locals.{Slots, freed}
+use Rattle.walks.proofs.LocalArray.{calls-with-array}
+use Rattle.walks.proofs.Locals.{Slots, freed}
 use Rattle.table.proofs.Callees.{Frame, FrameAlive, Receive, to-receive, goes-receive, receive-is}
 use Rattle.table.proofs.receive.Symbol as receive-def
 use Rattle.table.proofs.receive.Symbol.{name as #table·receive}

@@ -51,8 +51,8 @@ use Rattle.stream.proofs.Receipt as P
 use Rattle.stream.proofs.Receipt.Laws as P′
 use Rattle.table.proofs.Receiving.{ReceivesAlone}
 use Rattle.table.proofs.Machine.{machR, machS, machP, after-field, after-part, receipt-field, receipt-part, of-after, of-receipt}
-use Rattle.table.proofs.Calls.{calls-some}
-use Rattle.table.proofs.Locals.{Slots, freed}
+use Rattle.walks.proofs.Calls.{calls-some}
+use Rattle.walks.proofs.Locals.{Slots, freed}
 use Rattle.table.proofs.Callees.{Frame, FrameAlive, ReceiveAlone, to-receive-alone, goes-receive-alone, receive-alone-is}
 use Rattle.table.proofs.receive_alone.Symbol as receive-alone-def
 use Rattle.table.proofs.receive_alone.Symbol.{name as #table·receive-alone}

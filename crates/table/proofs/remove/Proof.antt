@@ -58,9 +58,9 @@ use Rattle.table.proofs.Target.Laws as X′
 use Rattle.table.proofs.Change as Y
 use Rattle.table.proofs.Change.Laws as Y′
 use Rattle.table.proofs.Machine.{machR, machF, machQ, machX, machY}
-use Rattle.table.proofs.Calls.{calls-is}
-use Rattle.table.proofs.Lending.{Mine, calls-sharing, calls-lending}
-use Rattle.table.proofs.Locals.{Slots, freed}
+use Rattle.walks.proofs.Calls.{calls-is}
+use Rattle.walks.proofs.Lending.{Mine, calls-sharing, calls-lending}
+use Rattle.walks.proofs.Locals.{Slots, freed}
 use Rattle.table.proofs.Changing.{changedAt, changed-length, removes}
 use Rattle.table.proofs.Callees.{Find, to-find, goes-find, find-is, PlaceToRemove, to-place-to-remove, goes-place-to-remove, place-to-remove-is, UnusedRecord, to-unused, goes-unused, unused-is, Store, to-store, goes-store, store-is}
 use Rattle.table.proofs.find.Symbol as find-def

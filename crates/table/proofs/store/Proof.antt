@@ -55,9 +55,9 @@ use Rattle.table.proofs.Target.Laws as X′
 use Rattle.table.proofs.Change as Y
 use Rattle.table.proofs.Change.Laws as Y′
 use Rattle.table.proofs.Machine.{machR, machN, machX, machY}
-use Rattle.table.proofs.Lending.{Mine, calls-lending}
-use Rattle.table.proofs.Locals.{Slots, freed}
-use Rattle.table.proofs.Pieces.{arm-of}
+use Rattle.walks.proofs.Lending.{Mine, calls-lending}
+use Rattle.walks.proofs.Locals.{Slots, freed}
+use Rattle.walks.proofs.Pieces.{arm-of}
 use Rattle.table.proofs.Changing.{Fits, changedAt, changed-refused}
 use Rattle.table.proofs.Callees.{Put, to-put, goes-put, put-is}
 use Rattle.table.proofs.put.Symbol as put-def

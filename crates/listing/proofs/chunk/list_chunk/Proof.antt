@@ -53,10 +53,10 @@ use Rattle.capture.proofs.Entry as I
 use Rattle.capture.proofs.Entry.Laws as I′
 use Rattle.stream.specs.declared.Record.{Record}
 use Rattle.stream.proofs.Record as T
-use Rattle.table.proofs.Calls.{calls-some}
-use Rattle.table.proofs.Lending.{Mine}
-use Rattle.table.proofs.Locals.{Slots, freed}
-use Rattle.table.proofs.Pieces.{rest-of}
+use Rattle.walks.proofs.Calls.{calls-some}
+use Rattle.walks.proofs.Lending.{Mine}
+use Rattle.walks.proofs.Locals.{Slots, freed}
+use Rattle.walks.proofs.Pieces.{rest-of}
 use Rattle.lines.specs.declared.Outcome.{Outcome}
 use Rattle.listing.specs.declared.chunk.Progress.{Progress}
 use Rattle.lines.specs.Lines.{lineOf}
@@ -66,7 +66,7 @@ use Rattle.lines.proofs.Outcome as O
 use Rattle.lines.proofs.Outcome.Laws as O′
 use Rattle.listing.proofs.chunk.Progress as D
 use Rattle.listing.proofs.chunk.Progress.Laws as D′
-use Rattle.listing.proofs.Lent.{calls-lent}
+use Rattle.walks.proofs.Lent.{calls-lent}
 use Rattle.listing.proofs.Obeying.{length-after}
 use Rattle.listing.proofs.Turns.{Under, progressOf, outOf, start, starts, ends, onward, front-fits, same-table, same-progress, same-out, under}
 use Rattle.listing.proofs.Callees.{machI, machO, Part, PartAlive, FrontOf, FrontOfSaid, to-front-of, goes-front-of, front-of-is}

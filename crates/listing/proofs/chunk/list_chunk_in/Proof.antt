@@ -47,8 +47,8 @@ use denote.Exit.{yes}
 use Rattle.stream.specs.declared.Record.{Record}
 use Rattle.stream.proofs.Record as T
 use Rattle.stream.proofs.Record.Laws as T′
-use Rattle.table.proofs.Lending.{Mine}
-use Rattle.table.proofs.Locals.{Slots, freed}
+use Rattle.walks.proofs.Lending.{Mine}
+use Rattle.walks.proofs.Locals.{Slots, freed}
 use Rattle.listing.specs.declared.chunk.Progress.{Progress}
 use Rattle.listing.specs.declared.chunk.Listed.{Listed}
 use Rattle.listing.specs.Chunks.{chunked, ChunkListed}
@@ -56,7 +56,7 @@ use Rattle.listing.proofs.chunk.Progress as D
 use Rattle.listing.proofs.chunk.Progress.Laws as D′
 use Rattle.listing.proofs.chunk.Listed as Q
 use Rattle.listing.proofs.chunk.Listed.Laws as Q′
-use Rattle.listing.proofs.Local.{Tokens, calls-with-array}
+use Rattle.walks.proofs.Local.{Tokens, calls-with-array}
 use Rattle.listing.proofs.Callees.{Part, PartAlive}
 use Rattle.listing.proofs.Turning.{machD}
 use Rattle.listing.proofs.chunk.list_chunk as listing-chunk

@@ -55,11 +55,11 @@ use Rattle.table.specs.Table.{admit, remove}
 use Rattle.table.proofs.Change as Y
 use Rattle.table.proofs.Change.Laws as Y′
 use Rattle.table.proofs.Machine.{machP, machN, machY}
-use Rattle.table.proofs.Calls.{calls-some}
-use Rattle.table.proofs.Lending.{Mine}
+use Rattle.walks.proofs.Calls.{calls-some}
+use Rattle.walks.proofs.Lending.{Mine}
 use Rattle.table.proofs.Callees.{Changer}
-use Rattle.table.proofs.Locals.{Slots, freed}
-use Rattle.table.proofs.Pieces.{rest-of, arm-of}
+use Rattle.walks.proofs.Locals.{Slots, freed}
+use Rattle.walks.proofs.Pieces.{rest-of, arm-of}
 use Rattle.table.proofs.receive.Symbol as receive-def
 use Rattle.table.proofs.receive.Symbol.{name as #table·receive}
 use Rattle.table.proofs.receive.Met as receive-thm
@@ -74,7 +74,7 @@ use Rattle.lines.specs.declared.Outcome.the-variants.{Refused}
 use Rattle.lines.specs.Lines.{admitted, removed}
 use Rattle.lines.proofs.Outcome as O
 use Rattle.lines.proofs.Outcome.Laws as O′
-use Rattle.listing.proofs.Lent.{calls-kept, calls-lent}
+use Rattle.walks.proofs.Lent.{calls-kept, calls-lent}
 use Rattle.listing.proofs.Obeying.{Obeys, length-admit, length-remove, length-receive, obeys-frame, obeys-admission, obeys-removal}
 use Rattle.listing.proofs.Callees.{machI, machO, Part, PartAlive, FrameAt, FrameAtSaid, to-frame-at, goes-frame-at, frame-at-is, Receive, ReceiveSaid, received, to-receive, goes-receive, receive-is, ChangerSaid, to-changer, goes-changer, changer-is, OfReceipt, OfReceiptSaid, to-of-receipt, goes-of-receipt, of-receipt-is, OfChange, OfChangeSaid, to-of-change, goes-of-change, of-change-is}
 use Rattle.listing.proofs.chunk.frame_at.Symbol as frame-at-def
