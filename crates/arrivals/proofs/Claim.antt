@@ -11,7 +11,8 @@ use lib.ListN.{length, getElem?, length-set}
 use borrow.Author.Tests.{eqb-true, eq-eqb}
 use Rattle.stream.specs.declared.Record.{Record}
 use Rattle.stream.specs.Answers.{after, idOf}
-use Rattle.table.specs.Table.{Table, holds, place, at, only, numberWith, receiveBy, receive, receiveAlone}
+use Rattle.table.specs.Table.{Table, holds, place, at, only, numberWith, receive, receiveAlone}
+use Rattle.table.proofs.Lengths.{length-receive}
 use Rattle.arrivals.specs.Arrivals.{Arrival, run, runAlone, isAccepted, ofStream, OneStream, StreamRecord, those, answersTo, replay, WithinCap, Counted, Claim}
 use Rattle.arrivals.proofs.Places.{and-both, stream-place, place-stream, one-stream, accepted, verdict, refused-verdict, accepted-number, number-place, number-any}
 use Rattle.arrivals.proofs.Directed.{directed, run-directed, one-answer-each, length-kept, place-kept, refused-at, as-replay, exchange-answers, exchange-table}
@@ -113,20 +114,12 @@ single [] e = let z : _≡_ {A = ℕ} 0 1 = e in absurd (omega arith)
 single (r ∷ []) e = refl
 single (r ∷ q ∷ t) e = absurd (omega arith)
 
-one-left : (r : Record) (frame : List ℕ) (L : ℕ) → length ((receive (r ∷ []) frame L) .1) ≡ 1
-unfolding receive
-one-left r frame L = go (numberWith (r ∷ []) frame)
-  where
-    go : (n : ℕ) → length ((receiveBy n (r ∷ []) frame L) .1) ≡ 1
-    go zero = let i = place (holds (idOf frame)) (r ∷ []) in length-set (r ∷ []) i (after (at (r ∷ []) i) frame L)
-    go (suc n) = refl
-
 run-alone : (r : Record) (l : List Arrival) → run (r ∷ []) l ≡ ((runAlone r l) .0, (runAlone r l) .1 ∷ [])
 unfolding run runAlone receiveAlone
 run-alone r [] = refl
 run-alone r (a ∷ l) =
     let x = receive (r ∷ []) (a .frame) (a .time) in
-    rw (← single (x .1) (one-left r (a .frame) (a .time)), run-alone (only (x .1)) l)
+    rw (← single (x .1) (length-receive (r ∷ []) (a .frame) (a .time)), run-alone (only (x .1)) l)
 
 pub over-a-record : (r : Record) → Claim (r ∷ []) (λ l. ((runAlone r l) .0, (runAlone r l) .1 ∷ []))
 over-a-record r = subst (Claim (r ∷ [])) (fun-ext (run-alone r)) (over-a-table (r ∷ []))

@@ -8,23 +8,22 @@ use borrow.Author.Tests.{ltb-false, le-ltb, not-false}
 use lib.ListN.{length, drop, set, length-set}
 use Rattle.frame.specs.declared.layout.Fields.{Fields}
 use Rattle.frame.specs.Layout.{fieldsOf}
-use Rattle.refusal.specs.Refusals.{firstOf}
+use Rattle.refusal.specs.Refusals.{firstOf, ifAccepted}
 use Rattle.frame.specs.Checks.{refusal}
 use Rattle.refusal.proofs.First.{clear, orElse}
 use Rattle.writer.specs.declared.Sender.{Sender}
-use Rattle.writer.specs.Frames.{frameOf}
-use Rattle.writer.specs.Writing.{writeRefusal, next, outcome, writing}
+use Rattle.writer.specs.Frames.{frameBytes}
+use Rattle.writer.specs.Writing.{writeRefusal, advanced, writing}
 use Rattle.writer.specs.ReadBack.{SenderTyped, GivenTyped, fieldsWritten}
 use Rattle.writer.specs.WriteBack.{senderOf}
-use Rattle.writer.specs.Successive as sending
-use Rattle.writer.specs.Successive.{Call, sent, successive, CallsTyped, Received, Gapless}
+use Rattle.writer.specs.Successive.{Call, successive, CallsTyped, Delivered, senderAfter, Gapless}
 use Rattle.writer.proofs.ReadBack.{fields-back}
-use Rattle.writer.proofs.Gapless.{next-typed, gapless}
+use Rattle.writer.proofs.Gapless.{advanced-typed, gapless}
 use Rattle.stream.specs.declared.Record.{Record}
 use Rattle.stream.specs.Records.{admitted}
 use Rattle.stream.specs.Answers.{Answer, answerOf, after, idOf}
 use Rattle.stream.proofs.Laws.{Expects, expects-any, no-breaks, expects-next}
-use Rattle.table.specs.Table.{Table, holds, isUnused, any, place, admitChecks, changed, admit, numberWith}
+use Rattle.table.specs.Table.{Table, holds, isUnused, any, place, admitChecks, admit, numberWith}
 use Rattle.table.proofs.Receiving.{number-then}
 use Rattle.arrivals.specs.Arrivals.{Arrival, run, ofStream, StreamRecord, those, answersTo, replay}
 use Rattle.arrivals.specs.Listener.{OneId, Unbroken, frames, Listener}
@@ -38,10 +37,10 @@ OfId k [] = Unit {0}
 OfId k (f ∷ fs) = (idOf f ≡ k) × OfId k fs
 
 -- a call that is answered n, where the frames of the calls after it carry the id
-module _ (k : ℕ) (s : Sender) (c : Call) (cs : List Call) (sender : SenderTyped s) (given : GivenTyped (c .given)) (one : c .given .origin .id ≡ k)
-    (later : (t : Sender) → SenderTyped t → (fs : List (List ℕ)) → Received (successive t cs) fs → OfId k fs) where
+module _ (k : ℕ) (s : Sender) (c : Call) (cs : List Call) (sender : SenderTyped s) (given : GivenTyped (c .given)) (one : c .given .stream .id ≡ k)
+    (later : (t : Sender) → SenderTyped t → (fs : List (List ℕ)) → Delivered (successive t cs) fs → OfId k fs) where
   one-id : (n : ℕ) → writeRefusal (c .given) (length (c .payload)) (c .room) ≡ n → (fs : List (List ℕ))
-      → (let a = outcome n s (next s (c .given) (c .payload)) in Received (sent (a .number) (frameOf s (c .given) (c .payload)) ++ successive (a .sender) cs) fs)
+      → Delivered (ifAccepted n (frameBytes s (c .given) (c .payload) ∷ []) [] ++ successive (ifAccepted n (advanced s (c .given) (c .payload)) s) cs) fs
       → OfId k fs
   unfolding idOf fieldsWritten
   one-id zero e [] h = absurd h
@@ -49,11 +48,11 @@ module _ (k : ℕ) (s : Sender) (c : Call) (cs : List Call) (sender : SenderType
       let g = c .given in
       let p = c .payload in (
         ap idOf (h .0 .1) ∙ ap (λ (x : Fields). x .header .stream .id) (fields-back s g p (h .0 .0) (c .room) sender given e) ∙ one,
-        later (next s g p) (next-typed s g p) fs (h .1),
+        later (advanced s g p) (advanced-typed s g p) fs (h .1),
       )
   one-id (suc n) e fs h = later s sender fs h
 
-sent-ids : (k : ℕ) (s : Sender) (calls : List Call) → SenderTyped s → CallsTyped calls → OneId k calls → (fs : List (List ℕ)) → Received (successive s calls) fs → OfId k fs
+sent-ids : (k : ℕ) (s : Sender) (calls : List Call) → SenderTyped s → CallsTyped calls → OneId k calls → (fs : List (List ℕ)) → Delivered (successive s calls) fs → OfId k fs
 unfolding successive writing
 sent-ids k s [] sender given one [] h = tt
 sent-ids k s [] sender given one (f ∷ fs) h = absurd h
@@ -69,18 +68,18 @@ ids-drop k (suc n) (f ∷ fs) h = ids-drop k n fs (h .1)
 gapless-drop : (n : ℕ) (s : Sender) (fs : List (List ℕ)) → Gapless s fs → (t : Sender) × Gapless t (drop n fs)
 gapless-drop zero s fs h = (s, h)
 gapless-drop (suc n) s [] h = (s, tt)
-gapless-drop (suc n) s (f ∷ fs) h = gapless-drop n (sending.after f) fs (h .2)
+gapless-drop (suc n) s (f ∷ fs) h = gapless-drop n (senderAfter f) fs (h .2)
 
 -- ---- the replay of a newly admitted record
 
 unbroken : (r : Record) (s : Sender) (l : List Arrival) → Expects r (s .sequence) (s .dbc) → Gapless s (frames l) → Unbroken ((replay r l) .0)
-unfolding replay answerOf senderOf sending.after
+unfolding replay answerOf senderOf senderAfter
 unbroken r s [] x h = tt
 unbroken r s (a ∷ l) x h =
     let e : senderOf (fieldsOf (a .frame)) ≡ s = h .1 in
     let y : Expects r (fieldsOf (a .frame) .header .avtp .sequence) (fieldsOf (a .frame) .cip .dbc) = subst (λ (z : Sender). Expects r (z .sequence) (z .dbc)) (sym e) x in
     let q = no-breaks r (a .frame) (a .time) y in
-    ((refl, q .0, q .1), unbroken (after r (a .frame) (a .time)) (sending.after (a .frame)) l (expects-next r (a .frame) (a .time)) (h .2))
+    ((refl, q .0, q .1), unbroken (after r (a .frame) (a .time)) (senderAfter (a .frame)) l (expects-next r (a .frame) (a .time)) (h .2))
 
 -- ---- admission
 
@@ -113,7 +112,7 @@ unfolding admit
 admitted-table t k e =
     let c = clear (admitChecks t k) tt e in
     let i = place isUnused t in
-    subst (λ (n : ℕ). Admitted (changed n t i (admitted k)) k) (sym e)
+    subst (λ (n : ℕ). Admitted (ifAccepted n (set t i (admitted k)) t) k) (sym e)
     (record {
       place = i;
       stream = new-record k t (c .1 .0) (not-false (any isUnused t) (c .1 .1 .0));
@@ -135,7 +134,7 @@ module _ (u : Table) (k : ℕ) (x : Admitted u k) where
   all-mine s [] g h = tt
   all-mine s (a ∷ l) g h =
       let there : any (holds (idOf (a .frame))) u ≡ true = rw (h .0) (stream-place k u (x .place) (admitted k) (x .stream) .0) in
-      (of-stream u a k (accepts u (a .frame) (x .short) (g .0) there) (h .0), all-mine (sending.after (a .frame)) l (g .2) (h .1))
+      (of-stream u a k (accepts u (a .frame) (x .short) (g .0) there) (h .0), all-mine (senderAfter (a .frame)) l (g .2) (h .1))
 
   those-all : (l : List Arrival) → AllMine l → those (ofStream u k) l ≡ l
   unfolding those

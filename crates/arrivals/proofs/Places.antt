@@ -10,12 +10,13 @@ use lib.Dec.{eqb}
 use lib.ListN.{length, getD, set, getElem?, length-map}
 use lib.Seq.{map-set-same}
 use borrow.Author.Tests.{eqb-true, eq-eqb}
+use Rattle.refusal.specs.Refusals.{ifAccepted}
 use Rattle.refusal.proofs.First.{both}
 use Rattle.stream.specs.declared.Record.{Record}
 use Rattle.stream.specs.Records.{unused}
 use Rattle.stream.specs.Answers.{Answer, refusedWith, answerOf, after, idOf}
 use Rattle.stream.proofs.Laws.{after-in-use, after-id}
-use Rattle.table.specs.Table.{Table, holds, any, place, at, numberWith, receiveBy, receive}
+use Rattle.table.specs.Table.{Table, holds, any, place, at, numberWith, receive}
 use Rattle.table.proofs.Receiving.{numberBefore, unadmitted, number-then}
 use Rattle.arrivals.specs.Arrivals.{Arrival, StreamRecord}
 
@@ -107,12 +108,8 @@ pub data Verdict : Type 0 where
   refused : ℕ → Verdict
   accepted : ℕ → Verdict
 
-abbrev byNumber : ℕ → ℕ → Verdict
-byNumber zero i = accepted i
-byNumber (suc n) i = refused (suc n)
-
 unfoldable pub verdict : Table → Arrival → Verdict
-verdict t a = byNumber (numberWith t (a .frame)) (place (holds (idOf (a .frame))) t)
+verdict t a = let n = numberWith t (a .frame) in ifAccepted n (accepted (place (holds (idOf (a .frame))) t)) (refused n)
 
 -- what is answered for a verdict, and the table afterwards
 unfoldable pub serve : Table → Arrival → Verdict → Answer × Table
@@ -123,7 +120,7 @@ pub receive-serve : (t : Table) (a : Arrival) → receive t (a .frame) (a .time)
 unfolding receive serve verdict
 receive-serve t a = go (numberWith t (a .frame))
   where
-    go : (n : ℕ) → receiveBy n t (a .frame) (a .time) ≡ serve t a (byNumber n (place (holds (idOf (a .frame))) t))
+    go : (n : ℕ) → let i = place (holds (idOf (a .frame))) t in (ifAccepted n (answerOf (at t i) (a .frame) (a .time)) (refusedWith n), ifAccepted n (set t i (after (at t i) (a .frame) (a .time))) t) ≡ serve t a (ifAccepted n (accepted i) (refused n))
     go zero = refl
     go (suc n) = refl
 
@@ -136,7 +133,7 @@ pub accepted-number : (t : Table) (a : Arrival) (i : ℕ) → verdict t a ≡ ac
 unfolding verdict
 accepted-number t a i e = go (numberWith t (a .frame)) e
   where
-    go : (n : ℕ) → byNumber n (place (holds (idOf (a .frame))) t) ≡ accepted i → n ≡ 0
+    go : (n : ℕ) → ifAccepted n (accepted (place (holds (idOf (a .frame))) t)) (refused n) ≡ accepted i → n ≡ 0
     go zero e = refl
     go (suc n) e = let z : _≡_ {A = ℕ} 0 1 = cc in absurd (omega arith)
 

@@ -6,7 +6,7 @@ use mathlib.Core.List.{List, [], _∷_, map}
 use lib.ListN.{drop}
 use Rattle.writer.specs.declared.Sender.{Sender}
 use Rattle.writer.specs.ReadBack.{SenderTyped}
-use Rattle.writer.specs.Successive.{Call, successive, CallsTyped, Received}
+use Rattle.writer.specs.Successive.{Call, successive, CallsTyped, Delivered}
 use Rattle.stream.specs.Answers.{Answer}
 use Rattle.table.specs.Table.{Table, admit}
 use Rattle.arrivals.specs.Arrivals.{Arrival, run}
@@ -14,7 +14,7 @@ use Rattle.arrivals.specs.Arrivals.{Arrival, run}
 -- every write is asked for with the one id
 abbrev pub OneId : ℕ → List Call → Type 0
 OneId k [] = Unit {0}
-OneId k (c ∷ cs) = (c .given .origin .id ≡ k) × OneId k cs
+OneId k (c ∷ cs) = (c .given .stream .id ≡ k) × OneId k cs
 
 -- each frame is accepted, and raises no sequence and no block flag
 abbrev pub Unbroken : List Answer → Type 0
@@ -29,6 +29,6 @@ frames l = map (λ (a : Arrival). a .frame) l
 abbrev pub Listener : Type 0
 Listener = (t : Table) (k : ℕ) → (admit t k) .0 ≡ 0
     → (s : Sender) (calls : List Call) → SenderTyped s → CallsTyped calls → OneId k calls
-    → (received : List (List ℕ)) → Received (successive s calls) received
+    → (received : List (List ℕ)) → Delivered (successive s calls) received
     → (n : ℕ) (l : List Arrival) → frames l ≡ drop n received
     → Unbroken ((run ((admit t k) .1) l) .0)

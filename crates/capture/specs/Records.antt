@@ -5,8 +5,7 @@ use mathlib.Core.List.{List, [], _∷_}
 use lib.Dec.{eqb, ltb}
 use lib.ListN.{length}
 use Rattle.wire.specs.Numbers.{part, numberOr0, littleEndianOr0}
-use Rattle.refusal.specs.Refusals.{numberOf, Check, _answers_, firstOf}
-use Rattle.frame.specs.Checks.{differs}
+use Rattle.refusal.specs.Refusals.{numberOf, Check, _answers_, firstOf, differs}
 use Rattle.capture.specs.declared.Entry.{Entry}
 use Rattle.capture.specs.declared.Entry.the-variants.{End, Cut, Refused, Frame, Admit, Remove}
 

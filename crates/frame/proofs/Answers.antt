@@ -16,13 +16,9 @@ use Rattle.refusal.specs.declared.Verdict.the-variants as verdict
 use Rattle.frame.specs.Layout.{headerOf, cipOf, fieldsOf}
 use Rattle.refusal.specs.Refusals.{verdictNumber, numberOf, firstOf}
 use Rattle.frame.specs.Checks.{lengthChecks, headerChecks, blockChecks, frameChecks, refusal}
-use Rattle.frame.specs.Reading.{Answer, answer, reading, told, payloadOf, dataOf}
+use Rattle.frame.specs.Reading.{ReadAnswer, reading, readAnswer, payloadOf, dataOf}
 use Rattle.refusal.proofs.First.{positive, stop, go}
 use Rattle.frame.proofs.Groups.{read-then, accepted-room}
-
-number-of-answer : (n : ℕ) (f : Fields) → answer n f .number ≡ n
-number-of-answer zero f = refl
-number-of-answer (suc n) f = refl
 
 -- the data of an accepted frame is in it, and is its payload
 pub data-payload : (frame : List ℕ) → refusal frame ≡ 0 → dataOf frame (fieldsOf frame .header .stream .«data_length») ≡ payloadOf frame
@@ -34,22 +30,22 @@ data-payload frame e =
 
 module _ (frame : List ℕ) where
   -- from the rules to the answer
-  pub refuses : (r : Refusal) → numberOf r ≡ refusal frame → told (Refused r) ≡ reading frame
+  pub refuses : (r : Refusal) → numberOf r ≡ refusal frame → readAnswer (Refused r) ≡ reading frame
   unfolding reading
   refuses r e = let p = positive r in rw (← e, p .1)
 
-  pub accepts : {f : Fields} → refusal frame ≡ 0 → f ≡ fieldsOf frame → told (Accepted f) ≡ reading frame
+  pub accepts : {f : Fields} → refusal frame ≡ 0 → f ≡ fieldsOf frame → readAnswer (Accepted f) ≡ reading frame
   unfolding reading
   accepts e q = rw (e, q)
 
   -- the verdicts of the three groups of checks, one after another
   module _ {u : Verdict} (lengths : verdictNumber u ≡ firstOf (lengthChecks (length frame))) where
-    pub length-refuses : {r : Refusal} → u ≡ verdict.Refused r → told (Refused r) ≡ reading frame
+    pub length-refuses : {r : Refusal} → u ≡ verdict.Refused r → readAnswer (Refused r) ≡ reading frame
     unfolding refusal frameChecks
     length-refuses {r} z = refuses r (rw (read-then (length frame) (fieldsOf frame)) (stop u r _ _ lengths z))
 
     module _ (zu : u ≡ verdict.Passed) {h : Header} (hs : h ≡ headerOf frame) {v : Verdict} (headers : verdictNumber v ≡ firstOf (headerChecks (length frame) h)) where
-      pub header-refuses : {r : Refusal} → v ≡ verdict.Refused r → told (Refused r) ≡ reading frame
+      pub header-refuses : {r : Refusal} → v ≡ verdict.Refused r → readAnswer (Refused r) ≡ reading frame
       unfolding refusal frameChecks fieldsOf
       header-refuses {r} z = refuses r (rw (read-then (length frame) (fieldsOf frame), ← hs) (go u _ _ _ lengths zu (stop v r _ _ headers z)))
 
@@ -59,27 +55,27 @@ module _ (frame : List ℕ) where
         whole blocks = rw (read-then (length frame) (fieldsOf frame), ← hs, ← ps) (go u _ _ _ lengths zu (go v _ _ _ headers zv blocks))
 
         module _ {w : Verdict} (blocks : verdictNumber w ≡ firstOf (blockChecks (h .stream) p)) where
-          pub block-refuses : {r : Refusal} → w ≡ verdict.Refused r → told (Refused r) ≡ reading frame
+          pub block-refuses : {r : Refusal} → w ≡ verdict.Refused r → readAnswer (Refused r) ≡ reading frame
           block-refuses {r} z = refuses r (ap verdictNumber (sym z) ∙ whole blocks)
 
-          pub all-accept : w ≡ verdict.Passed → told (Accepted (record { header = h; cip = p })) ≡ reading frame
+          pub all-accept : w ≡ verdict.Passed → readAnswer (Accepted (record { header = h; cip = p })) ≡ reading frame
           unfolding fieldsOf
           all-accept z = accepts (sym (whole blocks) ∙ ap verdictNumber z) (rw (hs, ps))
 
   -- and back
-  module _ {x : Reading} (e : told x ≡ reading frame) where
+  module _ {x : Reading} (e : readAnswer x ≡ reading frame) where
     pub refused-number : {r : Refusal} → x ≡ Refused r → refusal frame ≡ numberOf r
     unfolding reading
-    refused-number z = sym (number-of-answer (refusal frame) (fieldsOf frame)) ∙ ap (λ (a : Answer). a .number) (sym e) ∙ rw z
+    refused-number z = ap (λ (a : ReadAnswer). a .number) (sym e) ∙ rw z
 
     module _ {f : Fields} (z : x ≡ Accepted f) where
       pub accepted-number : refusal frame ≡ 0
       unfolding reading
-      accepted-number = sym (number-of-answer (refusal frame) (fieldsOf frame)) ∙ ap (λ (a : Answer). a .number) (sym e) ∙ rw z
+      accepted-number = ap (λ (a : ReadAnswer). a .number) (sym e) ∙ rw z
 
       pub accepted-fields : f ≡ fieldsOf frame
       unfolding reading
-      accepted-fields = ap (λ (y : Reading). told y .fields) (sym z) ∙ ap (λ (a : Answer). a .fields) e ∙ rw accepted-number
+      accepted-fields = ap (λ (y : Reading). readAnswer y .fields) (sym z) ∙ ap (λ (a : ReadAnswer). a .fields) e ∙ rw accepted-number
 
       pub accepted-payload : dataOf frame (f .header .stream .«data_length») ≡ payloadOf frame
       accepted-payload = rw accepted-fields (data-payload frame accepted-number)

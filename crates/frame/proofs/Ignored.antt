@@ -11,13 +11,13 @@ use lib.ListN.{length, getD, take, drop, replicate, length-take}
 use lib.Pow.{pow-pos}
 use lib.Seq.{getD-drop}
 use Rattle.wire.specs.Bits.{bits, flag}
-use Rattle.wire.specs.Numbers.{part, number, numberAt}
+use Rattle.wire.specs.Numbers.{part, number, numberAt, Bytes}
 use Rattle.frame.specs.Layout.{ethernetOf, avtpOf, streamOf, headerOf, cipOf, fieldsOf}
 use Rattle.frame.specs.declared.layout.Fields.{Fields}
-use Rattle.refusal.specs.Refusals.{firstOf}
+use Rattle.refusal.specs.Refusals.{firstOf, ifAccepted}
 use Rattle.frame.specs.Checks.{lengthChecks, streamChecks, headerChecks, readChecks, frameChecks, refusal}
-use Rattle.frame.specs.Reading.{reading, payloadOfNumber, payloadOf}
-use Rattle.frame.specs.Ignored.{regarded, through, Alike, Bytes, IgnoredBits}
+use Rattle.frame.specs.Reading.{reading, payloadOf}
+use Rattle.frame.specs.Ignored.{regarded, through, Alike, IgnoredBits}
 
 -- ---- masks
 
@@ -222,11 +222,12 @@ module _ (a b : List ℕ) (ha : Bytes a) (hb : Bytes b) (alike : Alike a b) wher
   unfolding reading
   reading-same = rw (refusal-same, fields-same a b ha hb (alike .header))
 
-  payload-same : (n : ℕ) → payloadOfNumber n a ≡ payloadOfNumber n b
-  unfolding fieldsOf headerOf streamOf
-  payload-same zero = alike .payload ∙ ap (λ (k : ℕ). part 50 (k - 8) b) (number-same a b ha hb (alike .header) 38 2 refl)
-  payload-same (suc n) = refl
+  payload-same : payloadOf a ≡ payloadOf b
+  unfolding payloadOf fieldsOf headerOf streamOf
+  payload-same =
+      let same : part 50 (numberAt 38 2 a - 8) a ≡ part 50 (numberAt 38 2 b - 8) b =
+      alike .payload ∙ ap (λ (k : ℕ). part 50 (k - 8) b) (number-same a b ha hb (alike .header) 38 2 refl) in
+      rw (refusal-same) (ap (λ (p : List ℕ). ifAccepted (refusal b) p []) same)
 
 pub ignored-bits : IgnoredBits
-unfolding payloadOf
-ignored-bits a b ha hb alike = (reading-same a b ha hb alike, payload-same a b ha hb alike (refusal a) ∙ ap (λ (n : ℕ). payloadOfNumber n b) (refusal-same a b ha hb alike))
+ignored-bits a b ha hb alike = (reading-same a b ha hb alike, payload-same a b ha hb alike)

@@ -3,7 +3,7 @@ use Prim.Native.Nat.{ℕ, zero, suc, _-_, _*_, _%_}
 use mathlib.Core.Bool.{Bool, not, _||_}
 use mathlib.Core.List.{List, [], _∷_, _++_}
 use lib.ListN.{length}
-use lib.Dec.{eqb, ltb}
+use lib.Dec.{ltb}
 use Rattle.wire.specs.Bits.{bits, flag}
 use Rattle.frame.specs.declared.layout.Ethernet.{Ethernet}
 use Rattle.frame.specs.declared.layout.Avtp.{Avtp}
@@ -12,10 +12,7 @@ use Rattle.frame.specs.declared.layout.Cip.{Cip}
 use Rattle.frame.specs.declared.layout.Header.{Header}
 use Rattle.frame.specs.declared.layout.Fields.{Fields}
 use Rattle.frame.specs.Layout.{fieldsOf}
-use Rattle.refusal.specs.Refusals.{Check, _answers_, firstOf}
-
-abbrev pub differs : ℕ → ℕ → Bool
-differs a b = not (eqb a b)
+use Rattle.refusal.specs.Refusals.{Check, _answers_, firstOf, differs}
 
 -- a group address: the lowest bit of the first of its six bytes is 1
 abbrev pub isGroup : ℕ → Bool

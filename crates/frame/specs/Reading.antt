@@ -1,46 +1,50 @@
 -- What is answered to a frame: its fields and its payload, or a number (document 01, Frame layout and Numbers answered).
-use Prim.Native.Nat.{ℕ, zero, suc, _+_, _-_, _/_}
-use mathlib.Core.Bool.{_||_, cond}
+use Prim.Native.Nat.{ℕ, _+_, _-_, _/_}
+use mathlib.Core.Bool.{false, _||_, cond}
 use mathlib.Core.List.{List, []}
 use lib.Dec.{ltb}
-use lib.ListN.{length, replicate}
-use Rattle.wire.specs.Numbers.{part, numberOr0}
+use lib.ListN.{length}
+use Rattle.wire.specs.Numbers.{part}
 use Rattle.frame.specs.declared.layout.Fields.{Fields}
 use Rattle.frame.specs.declared.Reading.{Reading}
 use Rattle.frame.specs.declared.Reading.the-variants.{Accepted, Refused}
 use Rattle.frame.specs.Layout.{fieldsOf}
-use Rattle.refusal.specs.Refusals.{numberOf}
+use Rattle.refusal.specs.Refusals.{numberOf, ifAccepted}
 use Rattle.frame.specs.Checks.{blockBytes, refusal}
 
 -- document 01's number, 0 where the frame is accepted, and the fields
-pub record Answer : Type 0 where
+pub record ReadAnswer : Type 0 where
   pub number : ℕ
   pub fields : Fields
 
 -- every field zero or no
 unfoldable pub noFields : Fields
-noFields = fieldsOf (replicate 50 0)
+noFields =
+    record {
+      header = record {
+        ethernet = record { destination = 0; source = 0; tpid = 0; pcp = 0; cfi = false; vid = 0; ethertype = 0 };
+        avtp = record { cd = false; subtype = 0; sv = false; version = 0; mr = false; gv = false; tv = false; sequence = 0; tu = false };
+        stream = record { id = 0; timestamp = 0; «gateway_info» = 0; «data_length» = 0; tag = 0; channel = 0; sy = 0 };
+      };
+      cip = record { sid = 0; dbs = 0; «fraction_number» = 0; qpc = 0; sph = false; dbc = 0; fmt = 0; fdf = 0; «low_half» = 0 };
+    }
 
-abbrev pub answer : ℕ → Fields → Answer
-answer zero f = record { number = 0; fields = f }
-answer (suc n) f = record { number = suc n; fields = noFields }
+-- what is answered by a number: every other field of a refused answer is zero or no
+abbrev pub readingBy : ℕ → List ℕ → ReadAnswer
+readingBy n frame = record { number = n; fields = ifAccepted n (fieldsOf frame) noFields }
 
 -- what a frame is answered
-unfoldable pub reading : List ℕ → Answer
-reading frame = answer (refusal frame) (fieldsOf frame)
+unfoldable pub reading : List ℕ → ReadAnswer
+reading frame = readingBy (refusal frame) frame
 
 -- what each case of the answer says
-abbrev pub told : Reading → Answer
-told (Accepted f) = record { number = 0; fields = f }
-told (Refused r) = record { number = numberOf r; fields = noFields }
+abbrev pub readAnswer : Reading → ReadAnswer
+readAnswer (Accepted f) = record { number = 0; fields = f }
+readAnswer (Refused r) = record { number = numberOf r; fields = noFields }
 
 -- the part of the frame that starts at byte 50 and is stream_data_length − 8 bytes long; no byte of a refused frame
-abbrev pub payloadOfNumber : ℕ → List ℕ → List ℕ
-payloadOfNumber zero frame = part 50 (fieldsOf frame .header .stream .«data_length» - 8) frame
-payloadOfNumber (suc n) frame = []
-
 unfoldable pub payloadOf : List ℕ → List ℕ
-payloadOf frame = payloadOfNumber (refusal frame) frame
+payloadOf frame = ifAccepted (refusal frame) (part 50 (fieldsOf frame .header .stream .«data_length» - 8) frame) []
 
 -- the same part by a stream_data_length that is known already; nothing where the frame has no such part
 unfoldable pub dataOf : List ℕ → ℕ → List ℕ
@@ -49,7 +53,3 @@ dataOf frame n = cond (ltb n 8 || ltb (length frame) (42 + n)) [] (part 50 (n - 
 -- the blocks of a payload
 unfoldable pub blocksOf : List ℕ → ℕ → ℕ
 blocksOf payload dbs = length payload / blockBytes dbs
-
--- the first four bytes of a payload, 0 where it has fewer
-abbrev pub firstQuadlet : List ℕ → ℕ
-firstQuadlet payload = numberOr0 0 4 payload

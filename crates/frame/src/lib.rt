@@ -7,10 +7,11 @@ use layout::Fields;
 use refusal::Refusal;
 use refusal::Verdict;
 ghost use mathlib.Core.Path.{_≡_};
-ghost use Prim.Native.Nat.{_+_, _<_};
-ghost use lib.ListN.{length};
+ghost use lib.ListN.{length, replicate};
 ghost use denote.Ref.{ptr};
-ghost use Rattle.frame.specs.Reading.{reading, told, dataOf, payloadOf, blocksOf, firstQuadlet};
+ghost use Rattle.wire.specs.Parts.{StandsIn};
+ghost use Rattle.frame.specs.Reading.{noFields, reading, readAnswer, dataOf, payloadOf, blocksOf};
+ghost use Rattle.frame.specs.Layout.{fieldsOf};
 ghost use Rattle.frame.specs.Ignored.{IgnoredBits};
 
 pub enum Reading {
@@ -19,7 +20,7 @@ pub enum Reading {
 }
 
 pub fn read(frame: &[u8]) -> Reading
-    ensures { λ r. ⌜ told r ≡ reading (now (frame .entry)) ⌝ }
+    ensures { λ r. ⌜ readAnswer r ≡ reading (now (frame .entry)) ⌝ }
 {
     let n = frame.len();
     let by_length = checks::check_length(n);
@@ -43,8 +44,7 @@ pub fn read(frame: &[u8]) -> Reading
 // read the frame already.
 pub fn data(frame: &[u8], data_length: u16) -> &[u8]
     ensures { λ r. ⌜ now r ≡ dataOf (now (frame .entry)) «data_length» ⌝ }
-    ensures { λ r. ⌜ ptr r .0 ≡ ptr (frame .entry) .0 ⌝ }
-    ensures { λ r. ⌜ (0 < length (now r) → ptr r .1 ≡ ptr (frame .entry) .1 + 50) ⌝ }
+    ensures { λ r. ⌜ StandsIn (ptr (frame .entry)) 50 (ptr r) (length (now r)) ⌝ }
 {
     if data_length < 8 {
         return &frame[..0];
@@ -59,8 +59,7 @@ pub fn data(frame: &[u8], data_length: u16) -> &[u8]
 // The part of the frame that is its payload; empty where the frame is refused.
 pub fn payload(frame: &[u8]) -> &[u8]
     ensures { λ r. ⌜ now r ≡ payloadOf (now (frame .entry)) ⌝ }
-    ensures { λ r. ⌜ ptr r .0 ≡ ptr (frame .entry) .0 ⌝ }
-    ensures { λ r. ⌜ (0 < length (now r) → ptr r .1 ≡ ptr (frame .entry) .1 + 50) ⌝ }
+    ensures { λ r. ⌜ StandsIn (ptr (frame .entry)) 50 (ptr r) (length (now r)) ⌝ }
 {
     let Reading::Accepted(fields) = read(frame) else {
         return &frame[..0];
@@ -75,12 +74,10 @@ pub fn blocks(payload: &[u8], dbs: u8) -> usize
     payload.len() / checks::block_bytes(dbs)
 }
 
-// The stamp of a source packet header that opens a payload: its first four bytes, 0 where it has fewer.
-pub fn first_quadlet(payload: &[u8]) -> u32
-    ensures { λ r. ⌜ r ≡ firstQuadlet (now (payload .entry)) ⌝ }
-{
-    wire::be32(payload, 0)
-}
+// The fields of a refused answer, zero or no, are those of fifty zero bytes.
+fn refused_fields()
+    ensures { λ _. ⌜ noFields ≡ fieldsOf (replicate 50 0) ⌝ }
+{}
 
 // What a reader ignores changes no answer.
 fn ignored_bits()

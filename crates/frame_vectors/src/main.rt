@@ -76,7 +76,7 @@ fn show_cip(c: Cip) {
 fn show_payload(payload: &[u8], dbs: u8) {
     number(b" payload=", payload.len() as u64);
     number(b" blocks=", frame::blocks(payload, dbs) as u64);
-    hex(b" first=", frame::first_quadlet(payload) as u64, 8);
+    hex(b" first=", wire::be32(payload, 0) as u64, 8);
 }
 
 fn show(bytes: &[u8]) {

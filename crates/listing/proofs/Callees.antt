@@ -33,12 +33,12 @@ use Rattle.capture.proofs.Entry as I
 use Rattle.capture.proofs.Entry.Laws as I′
 use Rattle.stream.specs.declared.Record.{Record}
 use Rattle.stream.specs.declared.Receipt.{Receipt}
-use Rattle.stream.specs.Answers.{told as answered}
+use Rattle.stream.specs.Answers.{receiptAnswer}
 use Rattle.stream.proofs.Record as T
 use Rattle.stream.proofs.Receipt as P
 use Rattle.stream.proofs.Receipt.Laws as P′
 use Rattle.table.specs.declared.Change.{Change}
-use Rattle.table.specs.Table.{changeNumber, receive}
+use Rattle.table.specs.Table.{changeNumber, ChangedBy, receive, Receives}
 use Rattle.table.proofs.Change as Y
 use Rattle.table.proofs.Change.Laws as Y′
 use Rattle.table.proofs.Machine.{machP, machY}
@@ -134,7 +134,7 @@ module _ {M : Type 1} (𝓤 : URA M) (H : Heap 𝓤) (A : Atoms 𝓤) (mem : Mem
       to-receive = (((ν ∷ [], (κ, tt)), (fullShare, (q, tt)), tt, (x, (y, (L, tt))), (sliceVal (b, o) (length ys) ∷ [], (slice-vals y, (vint w64 L ∷ [], tt)))), tt)
 
       abbrev pub ReceiveSaid : Receipt → Type 0
-      ReceiveSaid r = answered r (y .now) ≡ receive ys (y .now) L .0
+      ReceiveSaid r = receiptAnswer r (y .now) ≡ receive ys (y .now) L .0
 
       abbrev pub received : List Record
       received = receive ys (y .now) L .1
@@ -152,11 +152,11 @@ module _ {M : Type 1} (𝓤 : URA M) (H : Heap 𝓤) (A : Atoms 𝓤) (mem : Mem
         pub receive-is : (v : Val) → ent 𝓤 (Receive .post to-receive v) (H .⇛ (ex 𝓤 (Given-back v)))
         receive-is v =
             qed W (raw (Receive .post to-receive v) ∷ []) ∵ updating ! $
-            use1 W (later (some (λ (r : Receipt). ((‵ (flft (ν ∷ []) fullShare) ⊛ PartAlive κ q y) ⊛ ‵ (P.the-row .own r (v ∷ []))) ⊛ some (λ (zs : List Record × (Unit {0} × (Unit {0} × Unit {0}))). ‵ (lasts receiving.ended (ν ∷ [], (κ, tt)) (x, (y, (L, tt))) zs) ⊛ raw (fact 𝓤 (ReceiveSaid r × (zs .0 ≡ received))))))) (id⊢ 𝓤 _) $ await ! tt $ pick ! (λ r.
-            split ! $ move ! (1 ∷ []) $ pick ! (λ zs. split ! $ move ! (1 ∷ []) $ heard ! (ReceiveSaid r × (zs .0 ≡ received)) (λ e. fsplit ! $ fsplit ! $ rewrite ! 0 (λ (l : List Record). ‵ (finally T.the-row γ l)) (e .1) refl $
+            use1 W (later (some (λ (r : Receipt). ((‵ (flft (ν ∷ []) fullShare) ⊛ PartAlive κ q y) ⊛ ‵ (P.the-row .own r (v ∷ []))) ⊛ some (λ (zs : List Record × (Unit {0} × (Unit {0} × Unit {0}))). ‵ (lasts receiving.ended (ν ∷ [], (κ, tt)) (x, (y, (L, tt))) zs) ⊛ raw (fact 𝓤 (Receives ys (y .now) L r (zs .0))))))) (id⊢ 𝓤 _) $ await ! tt $ pick ! (λ r.
+            split ! $ move ! (1 ∷ []) $ pick ! (λ zs. split ! $ move ! (1 ∷ []) $ heard ! (Receives ys (y .now) L r (zs .0)) (λ e. fsplit ! $ fsplit ! $ rewrite ! 0 (λ (l : List Record). ‵ (finally T.the-row γ l)) (e .table) refl $
             -- [the last list; its length; true; the tokens and the result]
             move ! (3 ∷ []) $ split ! $ move ! (1 ∷ []) $ peeks ! P.the-row (Is P.the-row) (shows 𝓤 H A P.the-row) r (v ∷ []) (λ is. drop ! $ split ! $ nothing ! $ move ! (1 ∷ 0 ∷ []) $ join ! $ move ! (0 ∷ 2 ∷ []) $ join ! $ join ! $
-            at-once ! $ show ! (Given-back v) r $ frame ! $ by ! (factI 𝓤 (ReceiveSaid r × Is P.the-row r (v ∷ [])) _ (e .0, is))))))
+            at-once ! $ show ! (Given-back v) r $ frame ! $ by ! (factI 𝓤 (ReceiveSaid r × Is P.the-row r (v ∷ [])) _ (e .answer, is))))))
 
     -- admission or removal, by its rule
     module _ (rule : List Record → ℕ → ℕ × List Record) (id : ℕ) where
@@ -179,12 +179,12 @@ module _ {M : Type 1} (𝓤 : URA M) (H : Heap 𝓤) (A : Atoms 𝓤) (mem : Mem
         pub changer-is : (v : Val) → ent 𝓤 (Changer 𝓤 H A mem run rule .post to-changer v) (H .⇛ (ex 𝓤 (Changer-back v)))
         changer-is v =
             qed W (raw (Changer 𝓤 H A mem run rule .post to-changer v) ∷ []) ∵ updating ! $
-            use1 W (later (some (λ (c : Change). (Token 𝓤 ν ⊛ ‵ (Y.the-row .own c (v ∷ []))) ⊛ some (λ (zs : List Record × (Unit {0} × Unit {0})). ‵ (lasts admitting.ended (ν ∷ [], tt) (x, (id, tt)) zs) ⊛ raw (fact 𝓤 (ChangerSaid c × (zs .0 ≡ rule ys id .1))))))) (id⊢ 𝓤 _) $ await ! tt $ pick ! (λ c.
-            split ! $ move ! (1 ∷ []) $ pick ! (λ zs. split ! $ move ! (1 ∷ []) $ heard ! (ChangerSaid c × (zs .0 ≡ rule ys id .1)) (λ e. fsplit ! $ fsplit ! $ rewrite ! 0 (λ (l : List Record). ‵ (finally T.the-row γ l)) (e .1) refl $
+            use1 W (later (some (λ (c : Change). (Token 𝓤 ν ⊛ ‵ (Y.the-row .own c (v ∷ []))) ⊛ some (λ (zs : List Record × (Unit {0} × Unit {0})). ‵ (lasts admitting.ended (ν ∷ [], tt) (x, (id, tt)) zs) ⊛ raw (fact 𝓤 (ChangedBy rule ys id c (zs .0))))))) (id⊢ 𝓤 _) $ await ! tt $ pick ! (λ c.
+            split ! $ move ! (1 ∷ []) $ pick ! (λ zs. split ! $ move ! (1 ∷ []) $ heard ! (ChangedBy rule ys id c (zs .0)) (λ e. fsplit ! $ fsplit ! $ rewrite ! 0 (λ (l : List Record). ‵ (finally T.the-row γ l)) (e .table) refl $
             move ! (3 ∷ []) $ split ! $ move ! (1 ∷ []) $ peeks ! Y.the-row (Is Y.the-row) (shows 𝓤 H A Y.the-row) c (v ∷ []) (λ is. drop ! $
             -- [ν's token; the last list; its length; …]
             join ! $ nothing ! $ move ! (1 ∷ 0 ∷ []) $ join ! $
-            at-once ! $ show ! (Changer-back v) c $ frame ! $ by ! (factI 𝓤 (ChangerSaid c × Is Y.the-row c (v ∷ [])) _ (e .0, is))))))
+            at-once ! $ show ! (Changer-back v) c $ frame ! $ by ! (factI 𝓤 (ChangerSaid c × Is Y.the-row c (v ∷ [])) _ (e .number, is))))))
 
   -- ---- callees that take what the table answered
   abbrev pub OfReceipt : Contract 𝓤

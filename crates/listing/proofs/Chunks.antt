@@ -11,7 +11,7 @@ use Rattle.refusal.specs.declared.Refusal.{Refusal}
 use Rattle.refusal.specs.Refusals.{numberOf}
 use Rattle.refusal.proofs.First.{positive}
 use Rattle.stream.specs.declared.Receipt.the-variants.{Refused}
-use Rattle.stream.specs.Answers.{refusedWith, told as answered}
+use Rattle.stream.specs.Answers.{refusedWith, receiptAnswer}
 use Rattle.capture.specs.Records.{end, entryOf, frameOf}
 use Rattle.listing.specs.declared.chunk.Progress.{Progress}
 use Rattle.lines.specs.declared.Written.the-variants.{UpTo, NoRoom}
@@ -52,7 +52,7 @@ module _ (chunk : List ℕ) (at : ℕ) (h : length chunk ≤ at) where
 pub change-refused : (r : Refusal) (line : Line) → refused (numberOf r) ≡ changeLine (numberOf r) line
 change-refused r line = rw (positive r .1)
 
-pub receipt-refused : (r : Refusal) → refused (numberOf r) ≡ frameLine (answered (Refused r) [] .number) (answered (Refused r) [])
+pub receipt-refused : (r : Refusal) → refused (numberOf r) ≡ frameLine (receiptAnswer (Refused r) [] .number) (receiptAnswer (Refused r) [])
 unfolding refusedWith
 receipt-refused r = rw (positive r .1)
 

@@ -18,7 +18,7 @@ use Rattle.lines.specs.Writing.{roomy}
 use Rattle.listing.specs.Chunks.{Run, stopped, turnBy, turn, turns, chunked, usedOf, ChunkListed}
 use Rattle.listing.specs.Private.{lineAfter, tableAfter, halted, passed, sizeAhead, putWhole, putNext}
 use Rattle.lines.proofs.Puts.{sets-append}
-use Rattle.listing.proofs.Obeying.{length-admit, length-remove, length-receive}
+use Rattle.table.proofs.Lengths.{length-admit, length-remove, length-receive}
 
 module _ (chunk : List ℕ) (t : Table) (n : ℕ) (d : List ℕ) where
   -- the progress of a run, and the output

@@ -12,7 +12,7 @@ ghost use mathlib.Core.Bool.{cond};
 ghost use mathlib.Core.List.{[]};
 ghost use lib.ListN.{length, drop};
 ghost use Rattle.capture.specs.Records.{told, end, entryOf, frameOf};
-ghost use Rattle.stream.specs.Answers.{told as answered};
+ghost use Rattle.stream.specs.Answers.{receiptAnswer};
 ghost use Rattle.table.specs.Table.{changeNumber};
 ghost use Rattle.lines.specs.Lines.{admitted, removed, lineOf, lineText};
 ghost use Rattle.listing.specs.Listing.{changeLine, frameLine, stepBy, next};
@@ -55,7 +55,7 @@ pub(crate) fn frame_at(chunk: &[u8], at: usize, size: usize) -> &[u8]
 }
 
 pub(crate) fn outcome_of_receipt(receipt: Receipt) -> Outcome
-    ensures { λ r. ⌜ lineOf r ≡ frameLine (answered receipt [] .number) (answered receipt []) ⌝ }
+    ensures { λ r. ⌜ lineOf r ≡ frameLine (receiptAnswer receipt [] .number) (receiptAnswer receipt []) ⌝ }
 {
     match receipt {
         Receipt::Accepted(judged) => {

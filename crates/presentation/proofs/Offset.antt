@@ -6,7 +6,7 @@ use native.Mathlib.Omega.{arith}
 use lib.Dec.{leb→le, le→leb}
 use lib.IntN.{ℤ, pos, negsuc, negℤ, _+ℤ_, _-ℤ_, +ℤ-assoc}
 use lib.Signed.{_≤ℤ_, leZ-yes}
-use Rattle.presentation.specs.Offset.{modulo, offset, IsOffset, IsRemainder, TheOffset, OffsetMarks}
+use Rattle.presentation.specs.Offset.{modulo, offset, IsOffset, OneOffset, OffsetEdges, Remainder}
 use Rattle.presentation.proofs.Signed.{by-lt, sub-lt, sub-le, sub-is}
 
 -- a wrap of 32 bits, and half of one
@@ -24,7 +24,7 @@ below-zero p r m h =
     let e : p + m ≡ suc (p + m - 1) = omega arith in
     rw (e, sub-lt (m - 1 - r) (suc (p + m - 1)) (omega arith)) (ap negsuc (omega arith))
 
-is-remainder : (z : ℤ) (m : ℕ) → 0 < m → IsRemainder z m (modulo z m)
+pub is-remainder : Remainder
 is-remainder (pos n) m h = record { times = pos (n / m); whole = ap pos (sym (div-add-mod' n m)); below = mod-lt n h }
 is-remainder (negsuc n) m h =
     record {
@@ -97,15 +97,15 @@ is-offset L T =
 one-distance : (L T s : ℕ) → s < wrap → (L + s + half) % wrap ≡ T % wrap → s ≡ distance L T
 one-distance L T s h e = omega arith
 
-one-offset : (L T : ℕ) (e : ℤ) → IsOffset L T e → e ≡ offset L T
-one-offset L T e p =
+no-other : (L T : ℕ) (e : ℤ) → IsOffset L T e → e ≡ offset L T
+no-other L T e p =
     let w = distance-of e (p .low) (p .high) in
     let same : (L + w .s + half) % wrap ≡ T % wrap =
     sym (modulo-sum L (w .s)) ∙ ap (λ (z : ℤ). modulo (pos L +ℤ z) wrap) (sym (w .there)) ∙ p .same in
     w .there ∙ ap at (one-distance L T (w .s) (w .within) same) ∙ sym (offset-at L T)
 
-pub the-offset : (L T : ℕ) → TheOffset L T (offset L T)
-the-offset L T = record { is = is-offset L T; only = one-offset L T; remainder = is-remainder }
+pub one-offset : OneOffset
+one-offset L T = record { is = is-offset L T; only = no-other L T }
 
 -- ---- its meaning at zero, at both ends and at the wrap
 
@@ -115,8 +115,8 @@ offset-by L T e = offset-at L T ∙ ap at e
 offset-same : (L T L′ T′ : ℕ) → distance L T ≡ distance L′ T′ → offset L T ≡ offset L′ T′
 offset-same L T L′ T′ e = offset-by L T e ∙ sym (offset-at L′ T′)
 
-pub offset-marks : OffsetMarks
-offset-marks =
+pub offset-edges : OffsetEdges
+offset-edges =
     record {
       zero = λ L. offset-by L L {s = half} (omega arith);
       highest = λ L. offset-by L (L + 2_147_483_647) {s = wrap - 1} (omega arith);

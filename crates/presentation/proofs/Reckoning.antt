@@ -10,28 +10,13 @@ use mir.Facts.{toZ-pos, toZ-ofZ}
 use Rattle.presentation.specs.declared.Kind.{Kind}
 use Rattle.presentation.specs.declared.Kind.the-variants.{Outside, Late, Ahead}
 use Rattle.presentation.specs.declared.Timing.{Timing}
-use Rattle.presentation.specs.Offset.{offset, TheOffset}
 use Rattle.presentation.specs.Presentation.{timed, timing}
 use Rattle.presentation.proofs.Signed.{by-lt, sub-lt, sub-le}
-use Rattle.presentation.proofs.Offset.{wrap, half, distance, at, offset-at, sum-at, the-offset}
+use Rattle.presentation.proofs.Offset.{wrap, half, distance, at, offset-at, sum-at}
 
 -- the largest time
 abbrev largest : ℕ
 largest = 18_446_744_073_709_551_615
-
--- ---- the offset is given with every kind
-
-timed-offset : (d sum : ℤ) → (timed d sum) .offset ≡ d
-unfolding timed
-timed-offset d (negsuc n) = refl
-timed-offset d (pos n) =
-    by-lt largest n
-    (λ h. rw (lt-ltb largest n h))
-    (λ h. rw (le-ltb largest n h))
-
-timing-offset : (L T : ℕ) → (timing L T) .offset ≡ offset L T
-unfolding timing
-timing-offset L T = timed-offset (offset L T) (pos L +ℤ offset L T)
 
 -- ---- L + d by the distance s of d from the lowest offset
 
@@ -78,12 +63,10 @@ fits s h =
 held-at : (s : ℕ) → s < wrap → held s ≡ at s
 held-at s h = toZ-ofZ (fits s h) ∙ ap (λ (z : ℤ). z -ℤ pos half) (toZ-pos w64 {n = s} (omega arith))
 
--- what is answered with the kind and time of the stamp's distance is `timing`, and has the one offset
+-- what is answered with the kind and time of the stamp's distance is `timing`
 pub reckoned : (L T : ℕ) {kind : Kind} {time : ℕ} {r : Timing} → r ≡ answer kind (held (distance L T)) time
-    → timed (at (distance L T)) (pos L +ℤ at (distance L T)) ≡ answer kind (at (distance L T)) time
-    → (r ≡ timing L T) × TheOffset L T (r .offset)
+    → timed (at (distance L T)) (pos L +ℤ at (distance L T)) ≡ answer kind (at (distance L T)) time → r ≡ timing L T
 unfolding timing
 reckoned L T {kind} {time} {r} e f =
     let machine : r ≡ answer kind (at (distance L T)) time = e ∙ ap (λ (d : ℤ). answer kind d time) (held-at (distance L T) (omega arith)) in
-    let whole : r ≡ timing L T = machine ∙ sym f ∙ ap (λ (d : ℤ). timed d (pos L +ℤ d)) (sym (offset-at L T)) in
-    (whole, rw (ap (λ (t : Timing). t .offset) whole ∙ timing-offset L T) (the-offset L T))
+    machine ∙ sym f ∙ ap (λ (d : ℤ). timed d (pos L +ℤ d)) (sym (offset-at L T))

@@ -19,22 +19,29 @@ pub record IsOffset (L T : ℕ) (d : ℤ) : Type 0 where
   pub high : d ≤ℤ pos 2_147_483_647
   pub same : modulo (pos L +ℤ d) 4_294_967_296 ≡ modulo (pos T) 4_294_967_296
 
+-- "the one whole number": the offset is one, and no other number is, for every L and T
+pub record TheOffset (L T : ℕ) (d : ℤ) : Type 0 where
+  pub is : IsOffset L T d
+  pub only : (e : ℤ) → IsOffset L T e → e ≡ d
+
+abbrev pub OneOffset : Type 0
+OneOffset = (L T : ℕ) → TheOffset L T (offset L T)
+
+-- its meaning at zero, at both ends and at the wrap
+pub record OffsetEdges : Type 0 where
+  pub zero : (L : ℕ) → offset L L ≡ pos 0
+  pub highest : (L : ℕ) → offset L (L + 2_147_483_647) ≡ pos 2_147_483_647
+  pub lowest : (L : ℕ) → offset L (L + 2_147_483_648) ≡ negℤ (pos 2_147_483_648)
+  pub wrap-of-L : (L T : ℕ) → offset (L + 4_294_967_296) T ≡ offset L T
+  pub wrap-of-T : (L T : ℕ) → offset L (T + 4_294_967_296) ≡ offset L T
+
+-- ---- `modulo`, by which all of this is said, is the remainder
+
 -- what makes r the remainder of z: z is a whole number of times m, and r, which is below m
 pub record IsRemainder (z : ℤ) (m r : ℕ) : Type 0 where
   pub times : ℤ
   pub whole : z ≡ times *ℤ pos m +ℤ pos r
   pub below : r < m
 
--- "the one whole number": d is an offset, no other number is, and `modulo`, by which that is said, is the remainder
-pub record TheOffset (L T : ℕ) (d : ℤ) : Type 0 where
-  pub is : IsOffset L T d
-  pub only : (e : ℤ) → IsOffset L T e → e ≡ d
-  pub remainder : (z : ℤ) (m : ℕ) → 0 < m → IsRemainder z m (modulo z m)
-
--- its meaning at zero, at both ends and at the wrap
-pub record OffsetMarks : Type 0 where
-  pub zero : (L : ℕ) → offset L L ≡ pos 0
-  pub highest : (L : ℕ) → offset L (L + 2_147_483_647) ≡ pos 2_147_483_647
-  pub lowest : (L : ℕ) → offset L (L + 2_147_483_648) ≡ negℤ (pos 2_147_483_648)
-  pub wrap-of-L : (L T : ℕ) → offset (L + 4_294_967_296) T ≡ offset L T
-  pub wrap-of-T : (L T : ℕ) → offset L (T + 4_294_967_296) ≡ offset L T
+abbrev pub Remainder : Type 0
+Remainder = (z : ℤ) (m : ℕ) → 0 < m → IsRemainder z m (modulo z m)

@@ -1,32 +1,39 @@
 -- Presentation time, as document 01's section of that name has it, in its order. L is the arrival time, T the stamp, d the offset.
 use Prim.Native.Nat.{ℕ}
-use mathlib.Core.Bool.{Bool, true, false, cond}
+use mathlib.Core.Bool.{cond}
 use mathlib.Core.List.{List}
 use lib.Dec.{eqb, ltb}
 use lib.IntN.{ℤ, pos, negsuc, _+ℤ_}
 use lib.ListN.{length}
-use Rattle.frame.specs.Reading.{firstQuadlet}
+use Rattle.wire.specs.Numbers.{numberOr0}
+use Rattle.frame.specs.declared.layout.Fields.{Fields}
 use Rattle.presentation.specs.declared.Kind.{Kind}
 use Rattle.presentation.specs.declared.Kind.the-variants.{None, Cut, Outside, Late, Ahead}
 use Rattle.presentation.specs.declared.Timing.{Timing}
 use Rattle.presentation.specs.declared.Stamp.{Stamp}
-use Rattle.presentation.specs.declared.Stamp.the-variants.{Absent, Short, Given}
+use Rattle.presentation.specs.declared.Stamp.the-variants.{Absent, Short, Present}
 use Rattle.presentation.specs.Offset.{offset}
 
 -- ---- which stamp there is
+
+-- where SPH is 0, T is the AVTP timestamp if tv is 1
+abbrev pub avtpStamp : Fields → Stamp
+avtpStamp f = cond (f .header .avtp .tv) (Present (f .header .stream .timestamp)) Absent
+
+-- the first four bytes of a payload, 0 where it has fewer
+abbrev pub firstQuadlet : List ℕ → ℕ
+firstQuadlet payload = numberOr0 0 4 payload
 
 -- where SPH is 1, T is the first four payload bytes: absent from an empty payload, cut short in one of one to three bytes
 abbrev pub sourceStamp : List ℕ → Stamp
 sourceStamp payload =
     cond (eqb (length payload) 0) Absent
     (cond (ltb (length payload) 4) Short
-    (Given (firstQuadlet payload)))
+    (Present (firstQuadlet payload)))
 
--- where SPH is 0, T is the AVTP timestamp if tv is 1; where SPH is 1, tv is not read
-abbrev pub stampOf : Bool → Bool → ℕ → List ℕ → Stamp
-stampOf false true timestamp payload = Given timestamp
-stampOf false false timestamp payload = Absent
-stampOf true tv timestamp payload = sourceStamp payload
+-- where SPH is 1, tv is not read
+unfoldable pub stampOf : Fields → List ℕ → Stamp
+stampOf f payload = cond (f .cip .sph) (sourceStamp payload) (avtpStamp f)
 
 -- ---- the stamp against L
 
@@ -53,7 +60,8 @@ timing L T = timed (offset L T) (pos L +ℤ offset L T)
 abbrev pub timingOf : ℕ → Stamp → Timing
 timingOf L Absent = untimed None (pos 0)
 timingOf L Short = untimed Cut (pos 0)
-timingOf L (Given T) = timing L T
+timingOf L (Present T) = timing L T
 
-unfoldable pub presentation : ℕ → Bool → Bool → ℕ → List ℕ → Timing
-presentation L sph tv timestamp payload = timingOf L (stampOf sph tv timestamp payload)
+-- the presentation time of a frame with these fields and this payload
+unfoldable pub presentation : ℕ → Fields → List ℕ → Timing
+presentation L f payload = timingOf L (stampOf f payload)

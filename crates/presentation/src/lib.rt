@@ -1,7 +1,8 @@
 // Presentation time: when a frame's samples are due, by its stamp and the time at which it arrived.
+use frame::layout::Fields;
 ghost use mathlib.Core.Path.{_≡_};
 ghost use lib.IntN.{natAbs};
-ghost use Rattle.presentation.specs.Offset.{TheOffset, OffsetMarks};
+ghost use Rattle.presentation.specs.Offset.{OneOffset, OffsetEdges, Remainder};
 ghost use Rattle.presentation.specs.Presentation.{untimed, stampOf, timing, presentation};
 
 pub enum Kind {
@@ -22,7 +23,7 @@ pub struct Timing {
 pub enum Stamp {
     Absent,
     Short,
-    Given(u32),
+    Present(u32),
 }
 
 // A wrap of the stamp's 32 bits, and half of one.
@@ -44,7 +45,6 @@ fn untimed(kind: Kind, offset: i64) -> Timing
 // Stamp T against the arrival time L. Whether T lies before or after L goes by their difference modulo a wrap, never by which number is the larger.
 pub fn reckon(arrival_time: u64, stamp: u32) -> Timing
     ensures { λ r. ⌜ r ≡ timing «arrival_time» stamp ⌝ }
-    ensures { λ r. ⌜ TheOffset «arrival_time» stamp (r .offset) ⌝ }
 {
     // The distance of d from the lowest offset, which is half a wrap below zero: T - L + half a wrap, modulo a wrap.
     // A wrap more is added so that the difference is never below zero.
@@ -74,38 +74,48 @@ pub fn reckon(arrival_time: u64, stamp: u32) -> Timing
 }
 
 // Which stamp a frame has: its AVTP timestamp, or where SPH is 1 the one that opens the payload.
-fn stamp_of(sph: bool, tv: bool, timestamp: u32, payload: &[u8]) -> Stamp
-    ensures { λ r. ⌜ r ≡ stampOf sph tv timestamp (now (payload .entry)) ⌝ }
+fn stamp_of(fields: Fields, payload: &[u8]) -> Stamp
+    ensures { λ r. ⌜ r ≡ stampOf fields (now (payload .entry)) ⌝ }
 {
-    if sph {
+    if fields.cip.sph {
         if payload.len() == 0 {
             return Stamp::Absent;
         }
         if payload.len() < 4 {
             return Stamp::Short;
         }
-        return Stamp::Given(frame::first_quadlet(payload));
+        return Stamp::Present(wire::be32(payload, 0));
     }
-    if tv {
-        return Stamp::Given(timestamp);
+    if fields.header.avtp.tv {
+        return Stamp::Present(fields.header.stream.timestamp);
     }
     Stamp::Absent
 }
 
-// The presentation time of a frame: which stamp it has, and that stamp against L.
-pub fn judge_time(arrival_time: u64, sph: bool, tv: bool, timestamp: u32, payload: &[u8]) -> Timing
-    ensures { λ r. ⌜ r ≡ presentation «arrival_time» sph tv timestamp (now (payload .entry)) ⌝ }
+// The presentation time of a frame with these fields and this payload: which stamp it has, and that stamp against L.
+pub fn judge_time(arrival_time: u64, fields: Fields, payload: &[u8]) -> Timing
+    ensures { λ r. ⌜ r ≡ presentation «arrival_time» fields (now (payload .entry)) ⌝ }
 {
-    match stamp_of(sph, tv, timestamp, payload) {
+    match stamp_of(fields, payload) {
         Stamp::Absent => untimed(Kind::None, 0),
         Stamp::Short => untimed(Kind::Cut, 0),
-        Stamp::Given(stamp) => reckon(arrival_time, stamp),
+        Stamp::Present(stamp) => reckon(arrival_time, stamp),
     }
 }
 
+// The offset is the one number in range for which L + d and T are equal modulo a wrap.
+fn one_offset()
+    ensures { λ _. ⌜ OneOffset ⌝ }
+{}
+
 // What the offset is at zero, at both ends and at the wrap.
-fn offset_marks()
-    ensures { λ _. ⌜ OffsetMarks ⌝ }
+fn offset_edges()
+    ensures { λ _. ⌜ OffsetEdges ⌝ }
+{}
+
+// What is said to be equal modulo a wrap is so by the remainder.
+fn remainder()
+    ensures { λ _. ⌜ Remainder ⌝ }
 {}
 
 // How far an offset is from zero, for those who print it.

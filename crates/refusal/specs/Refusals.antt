@@ -1,7 +1,8 @@
 -- The numbers answered (document 01, Numbers answered).
-use Prim.Native.Nat.{ℕ}
-use mathlib.Core.Bool.{Bool, cond}
+use Prim.Native.Nat.{ℕ, zero, suc}
+use mathlib.Core.Bool.{Bool, not, cond}
 use mathlib.Core.List.{List, [], _∷_}
+use lib.Dec.{eqb}
 use Rattle.refusal.specs.declared.Refusal.{Refusal}
 use Rattle.refusal.specs.declared.Refusal.the-variants.{FrameTooShort, FrameTooLong, WrongTpid, CfiSet, WrongEthertype, ControlAvtpdu, WrongSubtype, WrongVersion, NoStreamId, WrongAddress, DataBeyondFrame, WrongTag, NoCipHeader, PartialBlock, NotAdmitted, TableTooLong, AlreadyAdmitted, TableFull, NothingToRemove, WriteWrongAddress, WriteFieldTooWide, WritePartialBlock, WritePayloadTooLong, WriteOutputTooShort, RecordCut, RecordLength, RecordKind}
 use Rattle.refusal.specs.declared.Verdict.{Verdict}
@@ -41,6 +42,11 @@ abbrev pub verdictNumber : Verdict → ℕ
 verdictNumber Passed = 0
 verdictNumber (Refused r) = numberOf r
 
+-- where a number decides: 0, the number of what is accepted, gives the one, and any other gives the other
+abbrev pub ifAccepted {ℓ} : {A : Type ℓ} → ℕ → A → A → A
+ifAccepted zero accepted refused = accepted
+ifAccepted (suc n) accepted refused = refused
+
 -- A check is a condition and the number that it answers where it holds.
 infix 68 _answers_
 pub data Check : Type 0 where
@@ -50,3 +56,7 @@ pub data Check : Type 0 where
 unfoldable pub firstOf : List Check → ℕ
 firstOf [] = 0
 firstOf ((b answers n) ∷ rest) = cond b n (firstOf rest)
+
+-- a condition that many checks ask
+abbrev pub differs : ℕ → ℕ → Bool
+differs a b = not (eqb a b)

@@ -3,35 +3,35 @@
 use libc::STDOUT_FILENO;
 use writer::Sender;
 use writer::Written;
-use writer::given::Address;
-use writer::given::Format;
+use writer::given::AvtpFields;
+use writer::given::CipFields;
+use writer::given::EthernetFields;
 use writer::given::Given;
-use writer::given::Marks;
-use writer::given::Origin;
+use writer::given::StreamFields;
 ghost use Prim.Native.Nat.{_≤_};
 
 fn given(timestamp: u32) -> Given {
     Given {
-        address: Address {
+        ethernet: EthernetFields {
             destination: 0x91e0_f000_fe01,
             source: 0x0200_0000_0001,
             pcp: 3,
             vid: 2,
         },
-        marks: Marks {
+        avtp: AvtpFields {
             mr: false,
             gv: false,
             tv: true,
             tu: false,
         },
-        origin: Origin {
+        stream: StreamFields {
             id: 1,
             timestamp,
             gateway_info: 0,
             channel: 31,
             sy: 0,
         },
-        format: Format {
+        cip: CipFields {
             sid: 63,
             dbs: 2,
             fraction_number: 0,

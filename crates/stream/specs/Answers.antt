@@ -1,9 +1,11 @@
 -- What a received frame is answered, and what it leaves of the record, as functions of the record, the frame's bytes and L alone
 -- (document 01, Lists of arrivals).
 use Prim.Native.Nat.{ℕ}
+use mathlib.Core.Path.{_≡_}
 use mathlib.Core.Bool.{false}
 use mathlib.Core.List.{List, []}
 use lib.IntN.{pos}
+use lib.ListN.{replicate}
 use Rattle.frame.specs.declared.layout.Fields.{Fields}
 use Rattle.frame.specs.Layout.{fieldsOf}
 use Rattle.refusal.specs.Refusals.{numberOf}
@@ -16,6 +18,7 @@ use Rattle.stream.specs.declared.Flags.{Flags}
 use Rattle.stream.specs.declared.Stepped.{Stepped}
 use Rattle.stream.specs.declared.Receipt.{Receipt}
 use Rattle.stream.specs.declared.Receipt.the-variants.{Accepted, Refused}
+use Rattle.stream.specs.Records.{unused}
 use Rattle.stream.specs.Step.{stepped}
 
 -- document 01's number, 0 where the frame is accepted, and every value
@@ -58,8 +61,8 @@ idOf frame = fieldsOf frame .header .stream .id
 
 -- what each case of a receipt says of the frame for which it is given: its payload is the part of the frame that the receipt's own
 -- stream_data_length leaves to it, and empty where the frame is refused
-abbrev pub told : Receipt → List ℕ → Answer
-told (Accepted j) frame =
+abbrev pub receiptAnswer : Receipt → List ℕ → Answer
+receiptAnswer (Accepted j) frame =
     record {
       number = 0;
       fields = j .fields;
@@ -67,4 +70,10 @@ told (Accepted j) frame =
       flags = j .flags;
       timing = j .timing;
     }
-told (Refused r) frame = refusedWith (numberOf r)
+receiptAnswer (Refused r) frame = refusedWith (numberOf r)
+
+-- a refused answer says nothing: its parts are those of a step that an unused record takes for fifty zero bytes, with no payload
+abbrev pub RefusedAnswer : Type 0
+RefusedAnswer =
+    (n L : ℕ) → (let nothing = fieldsOf (replicate 50 0) in let step = stepped unused nothing [] L in
+    refusedWith n ≡ record { number = n; fields = nothing; payload = []; flags = step .flags; timing = step .timing })

@@ -5,7 +5,7 @@ use mathlib.Core.List.{List}
 use lib.Dec.{ltb}
 use Rattle.frame.specs.declared.layout.Cip.{Cip}
 use Rattle.frame.specs.declared.layout.Fields.{Fields}
-use Rattle.frame.specs.Checks.{differs}
+use Rattle.refusal.specs.Refusals.{differs}
 use Rattle.frame.specs.Reading.{blocksOf}
 use Rattle.stream.specs.declared.Format.{Format}
 use Rattle.stream.specs.declared.Counts.{Counts}

@@ -13,5 +13,5 @@ stepped r f payload L =
     record {
       after = recordAfter r f payload (flagsOf r f);
       flags = flagsOf r f;
-      timing = presentation L (f .cip .sph) (f .header .avtp .tv) (f .header .stream .timestamp) payload;
+      timing = presentation L f payload;
     }

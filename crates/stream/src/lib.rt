@@ -5,9 +5,12 @@ use frame::layout::Fields;
 use presentation::Timing;
 use refusal::Refusal;
 ghost use mathlib.Core.Path.{_≡_};
+ghost use lib.ListN.{length};
+ghost use denote.Ref.{ptr};
+ghost use Rattle.wire.specs.Parts.{StandsIn};
 ghost use Rattle.stream.specs.Records.{unused, admitted, formatOf, formatChange, sequenceBreak, flagsOf, nextDbc, bump, countsAfter, recordAfter};
 ghost use Rattle.stream.specs.Step.{stepped};
-ghost use Rattle.stream.specs.Answers.{told};
+ghost use Rattle.stream.specs.Answers.{receiptAnswer, RefusedAnswer};
 ghost use Rattle.stream.specs.Examples.{MarkedExamples};
 
 // The four format fields of a CIP header.
@@ -195,13 +198,7 @@ pub fn step(last: Record, fields: Fields, payload: &[u8], arrival_time: u64) -> 
     ensures { λ r. ⌜ r ≡ stepped last fields (now (payload .entry)) «arrival_time» ⌝ }
 {
     let flags = raise_flags(last, fields);
-    let timing = presentation::judge_time(
-        arrival_time,
-        fields.cip.sph,
-        fields.header.avtp.tv,
-        fields.header.stream.timestamp,
-        payload,
-    );
+    let timing = presentation::judge_time(arrival_time, fields, payload);
     let after = update(last, fields, payload, flags);
     Stepped {
         after,
@@ -212,7 +209,8 @@ pub fn step(last: Record, fields: Fields, payload: &[u8], arrival_time: u64) -> 
 
 // The payload that goes with a receipt: a part of the frame for which it was given, empty where that is refused.
 pub fn payload_of(receipt: Receipt, frame: &[u8]) -> &[u8]
-    ensures { λ r. ⌜ now r ≡ told receipt (now (frame .entry)) .payload ⌝ }
+    ensures { λ r. ⌜ now r ≡ receiptAnswer receipt (now (frame .entry)) .payload ⌝ }
+    ensures { λ r. ⌜ StandsIn (ptr (frame .entry)) 50 (ptr r) (length (now r)) ⌝ }
 {
     match receipt {
         Receipt::Accepted(judged) => {
@@ -222,6 +220,11 @@ pub fn payload_of(receipt: Receipt, frame: &[u8]) -> &[u8]
         Receipt::Refused(_) => &frame[..0],
     }
 }
+
+// Every part of a refused answer is zero, no or empty.
+fn refused_answer()
+    ensures { λ _. ⌜ RefusedAnswer ⌝ }
+{}
 
 // The rules answer document 01's marked examples M1 to M12 as it has them.
 fn marked_examples()

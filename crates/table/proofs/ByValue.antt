@@ -43,7 +43,7 @@ use Rattle.stream.specs.declared.Record.{Record}
 use Rattle.stream.proofs.Record as T
 use Rattle.stream.proofs.Record.Laws as T′
 use Rattle.table.specs.declared.Change.{Change}
-use Rattle.table.specs.Table.{changeNumber}
+use Rattle.table.specs.Table.{ChangedBy}
 use Rattle.table.proofs.Change as Y
 use Rattle.table.proofs.Change.Laws as Y′
 use Rattle.table.proofs.Changed as D
@@ -103,7 +103,7 @@ module _ (f : Name) (rule : List Record → ℕ → ℕ × List Record) where
       record {
         ghost = Unit {0};
         requires = λ g. emp 𝓤;
-        ensures = λ g r end. fact 𝓤 ((changeNumber (r .change) ≡ rule (a .0) (a .1 .0) .0) × (r .table ≡ rule (a .0) (a .1 .0) .1));
+        ensures = λ g r end. fact 𝓤 (ChangedBy rule (a .0) (a .1 .0) (r .change) (r .table));
       }
 
   module _ {M : Type 1} (𝓤 : URA M) (H : Heap 𝓤) (A : Atoms 𝓤) (W : Given 𝓤 H A) (mem : Memory → SProp 𝓤) (run : Routine → Fun 𝓤) (ys : List Record) (id : ℕ) (was : Is Whole ys (machA ys ∷ [])) (fits : id < 2 ^ 64) where
@@ -128,7 +128,7 @@ module _ (f : Name) (rule : List Record → ℕ → ℕ × List Record) where
     exits : (c : Change) → Said c → Is Whole zs (machA zs ∷ []) → Is Y.the-row c (machY c ∷ []) → ent 𝓤 (sem 𝓤 H A ftrue) (Post (beside zs (machY c)))
     exits c said ok ok-c =
         qed W (‵ ftrue ∷ []) ∵
-        suffices ! _ (ends-at 𝓤 H A either.ended stayed (clauses 𝓤) W ((tt, tt, tt, a, vals), tt) (beside zs (machY c)) (record { table = zs; change = c }) (tt, (tt, tt)) (tt, (tt, tt))) $ says ! (said, refl) $ frame ! $
+        suffices ! _ (ends-at 𝓤 H A either.ended stayed (clauses 𝓤) W ((tt, tt, tt, a, vals), tt) (beside zs (machY c)) (record { table = zs; change = c }) (tt, (tt, tt)) (tt, (tt, tt))) $ says ! (record { number = said; table = refl }) $ frame ! $
         nothing ! $ owned ! u64 (Is u64) (uint-makes 𝓤 H A W w64) id _ (refl, fits) $ fjoin ! $
         owned ! Whole (Is Whole) (array-makes 𝓤 H A W T.the-row (LL.makes T.the-type T′.the-plain 𝓤 H A) 64) ys _ was $ fjoin ! $ frame ! $
         owned ! D.the-row (Is D.the-row) (LL.makes D.the-type D′.the-plain 𝓤 H A) (record { table = zs; change = c }) _ (is-changed zs c ok ok-c) $ done !

@@ -29,24 +29,24 @@ use denote.Triple.Walked.{says}
 use denote.Triple.Clauses.{Clauses, closing, ensured, lasts}
 use Rattle.frame.specs.declared.Reading.{Reading}
 use Rattle.frame.specs.declared.layout.Fields.{Fields}
-use Rattle.frame.specs.Reading.{told as readAs}
+use Rattle.frame.specs.Reading.{readAnswer}
 use Rattle.stream.specs.declared.Record.{Record}
 use Rattle.table.specs.declared.Served.{Served}
 use Rattle.stream.specs.declared.Receipt.{Receipt}
-use Rattle.stream.specs.Answers.{told}
+use Rattle.stream.specs.Answers.{receiptAnswer}
 use Rattle.table.specs.Private.{served}
 use Rattle.stream.specs.Records.{unused, admitted}
 use Rattle.table.specs.declared.Found.{Found}
 use Rattle.table.specs.declared.Wanted.{Wanted}
 use Rattle.table.specs.declared.Target.{Target}
 use Rattle.table.specs.declared.Change.{Change}
-use Rattle.table.specs.Table.{at, receive, changeNumber}
-use Rattle.table.specs.Private.{wants, find, readingFor, placeToAdmit, placeToRemove, changeOf}
+use Rattle.table.specs.Table.{at, receive, changeNumber, ChangedBy, Receives}
+use Rattle.table.specs.Private.{wants, find, readingFor, placeToAdmit, placeToRemove, changeOf, changedAt}
 use Rattle.table.proofs.Machine.{machR, machU, machF, machQ, machX}
 use Rattle.walks.proofs.Calls.{is-said, some-said}
 use Rattle.walks.proofs.Lending.{is-last, some-last}
-use Rattle.table.proofs.Receiving.{Receives, ReceivesAlone}
-use Rattle.table.proofs.Changing.{Fits, changedAt}
+use Rattle.table.proofs.Receiving.{ServesAlone}
+use Rattle.table.proofs.Changing.{Fits}
 use Rattle.frame.proofs.layout.Fields as U
 use Rattle.frame.proofs.layout.Fields.Laws as U′
 use Rattle.frame.proofs.Reading as G
@@ -179,7 +179,7 @@ module _ {M : Type 1} (𝓤 : URA M) (H : Heap 𝓤) (A : Atoms 𝓤) (mem : Mem
       to-read-for = (((κ, tt), (q, tt), tt, (n, (y, tt)), (vint w64 n ∷ [], (slice-vals y, tt))), tt)
 
       abbrev pub ReadForSaid : Reading → Type 0
-      ReadForSaid r = readAs r ≡ readingFor n (y .now)
+      ReadForSaid r = readAnswer r ≡ readingFor n (y .now)
 
       module _ (W : Given 𝓤 H A) where
         pub goes-read-for : n < 2 ^ 64 → ent 𝓤 (mean 𝓤 H A (FrameAlive ⊛ Frame)) (ReadFor .pre to-read-for)
@@ -214,9 +214,9 @@ module _ {M : Type 1} (𝓤 : URA M) (H : Heap 𝓤) (A : Atoms 𝓤) (mem : Mem
             qed W (FrameAlive ∷ Frame ∷ []) ∵ nothing ! $ owned ! u64 (Is u64) (uint-makes 𝓤 H A W w64) L _ (refl, fits) $ fjoin ! $ move ! (2 ∷ 0 ∷ []) $ fjoin ! $
             owned ! T.the-row (Is T.the-row) (LL.makes T.the-type T′.the-plain 𝓤 H A) r _ is $ fjoin ! $ move ! (1 ∷ 0 ∷ []) $ join ! $ frame ! $ done !
 
-        pub receive-alone-is : (v : Val) → ent 𝓤 (ReceiveAlone .post to-receive-alone v) (H .⇛ (ex 𝓤 (λ (s : Served). sep 𝓤 (mean 𝓤 H A FrameAlive) (fact 𝓤 (ReceivesAlone r (y .now) L s × Is S.the-row s (v ∷ []))))))
-        receive-alone-is v = some-said 𝓤 H A W S.the-row (ReceivesAlone r (y .now) L) v (mean 𝓤 H A FrameAlive) (ensured 𝓤 H A receive-alone.ended (receive-alone.clauses 𝓤 H A mem run) (κ, tt) (r, (y, (L, tt))) tt)
-            (λ s. exE 𝓤 _ (λ ws. snd∗ 𝓤 (sem 𝓤 H A (lasts receive-alone.ended (κ, tt) (r, (y, (L, tt))) ws)) (fact 𝓤 (ReceivesAlone r (y .now) L s))))
+        pub receive-alone-is : (v : Val) → ent 𝓤 (ReceiveAlone .post to-receive-alone v) (H .⇛ (ex 𝓤 (λ (s : Served). sep 𝓤 (mean 𝓤 H A FrameAlive) (fact 𝓤 (ServesAlone r (y .now) L s × Is S.the-row s (v ∷ []))))))
+        receive-alone-is v = some-said 𝓤 H A W S.the-row (ServesAlone r (y .now) L) v (mean 𝓤 H A FrameAlive) (ensured 𝓤 H A receive-alone.ended (receive-alone.clauses 𝓤 H A mem run) (κ, tt) (r, (y, (L, tt))) tt)
+            (λ s. exE 𝓤 _ (λ ws. snd∗ 𝓤 (sem 𝓤 H A (lasts receive-alone.ended (κ, tt) (r, (y, (L, tt))) ws)) (fact 𝓤 (ServesAlone r (y .now) L s))))
 
   -- ---- callees of admission and removal
   abbrev pub PlaceToAdmit : Contract 𝓤
@@ -308,11 +308,8 @@ module _ {M : Type 1} (𝓤 : URA M) (H : Heap 𝓤) (A : Atoms 𝓤) (mem : Mem
     abbrev pub Answers : List Record → ℕ → Change → Type 0
     Answers ys id c = changeNumber c ≡ rule ys id .0
 
-    abbrev Changes : List Record → ℕ → Change → List Record → Type 0
-    Changes ys id c zs = Answers ys id c × (zs ≡ rule ys id .1)
-
     abbrev changes : Clauses 𝓤 admitting.ended
-    changes κs a = record { ghost = Unit {0}; requires = λ g. emp 𝓤; ensures = λ g c end. fact 𝓤 (Changes (now (a .0)) (a .1 .0) c (now (end .0))) }
+    changes κs a = record { ghost = Unit {0}; requires = λ g. emp 𝓤; ensures = λ g c end. fact 𝓤 (ChangedBy rule (now (a .0)) (a .1 .0) c (now (end .0))) }
 
     abbrev pub Changer : Contract 𝓤
     Changer = tripleOf 𝓤 H A admitting.signature (closing 𝓤 H A admitting.ended changes)
@@ -333,8 +330,8 @@ module _ {M : Type 1} (𝓤 : URA M) (H : Heap 𝓤) (A : Atoms 𝓤) (mem : Mem
             qed W (Alive κ q b o γ ys ∷ Mut κ q b o γ ys ∷ []) ∵ nothing ! $ owned ! u64 (Is u64) (uint-makes 𝓤 H A W w64) id _ (refl, fits) $ fjoin ! $ move ! (2 ∷ 0 ∷ []) $ fjoin ! $ move ! (1 ∷ 0 ∷ []) $ join ! $ frame ! $ done !
 
         pub changer-is : (v : Val) → ent 𝓤 (Changer .post to-changer v) (H .⇛ (ex 𝓤 (λ (c : Change). sep 𝓤 (mean 𝓤 H A (Alive κ q b o γ ys ⊛ ‵ (finally T.the-row γ (rule ys id .1)))) (fact 𝓤 (Answers ys id c × Is Y.the-row c (v ∷ []))))))
-        changer-is v = some-last 𝓤 H A W Y.the-row T.the-row γ (rule ys id .1) v (Alive κ q b o γ ys) (List Record × (Unit {0} × Unit {0})) (λ z. z .0) (λ z. lasts admitting.ended (κ, tt) with-id z) (Changes ys id)
-            (λ z. qed W (‵ (lasts admitting.ended (κ, tt) with-id z) ∷ []) ∵ fsplit ! $ fsplit ! $ keep ! (0 ∷ []) $ done !) (Answers ys id) (λ c l e. (e .1, e .0))
+        changer-is v = some-last 𝓤 H A W Y.the-row T.the-row γ (rule ys id .1) v (Alive κ q b o γ ys) (List Record × (Unit {0} × Unit {0})) (λ z. z .0) (λ z. lasts admitting.ended (κ, tt) with-id z) (ChangedBy rule ys id)
+            (λ z. qed W (‵ (lasts admitting.ended (κ, tt) with-id z) ∷ []) ∵ fsplit ! $ fsplit ! $ keep ! (0 ∷ []) $ done !) (Answers ys id) (λ c l e. (e .table, e .number))
 
   abbrev pub Receive : Contract 𝓤
   Receive = tripleOf 𝓤 H A receiving.signature (receiving.spec 𝓤 H A mem run)
@@ -351,7 +348,7 @@ module _ {M : Type 1} (𝓤 : URA M) (H : Heap 𝓤) (A : Atoms 𝓤) (mem : Mem
 
     -- what the receipt says
     abbrev Tells : Receipt → Type 0
-    Tells r = told r (y .now) ≡ receive ys (y .now) L .0
+    Tells r = receiptAnswer r (y .now) ≡ receive ys (y .now) L .0
 
     module _ (W : Given 𝓤 H A) where
       pub goes-receive : L < 2 ^ 64 → ent 𝓤 (mean 𝓤 H A ((‵ (flft κ q) ⊛ (FrameAlive κ₁ q₁ y ⊛ Frame κ₁ q₁ y)) ⊛ Mut κ q b o γ ys)) (Receive .pre to-receive)
@@ -362,4 +359,4 @@ module _ {M : Type 1} (𝓤 : URA M) (H : Heap 𝓤) (A : Atoms 𝓤) (mem : Mem
 
       pub receive-is : (v : Val) → ent 𝓤 (Receive .post to-receive v) (H .⇛ (ex 𝓤 (λ (r : Receipt). sep 𝓤 (mean 𝓤 H A ((‵ (flft κ q) ⊛ FrameAlive κ₁ q₁ y) ⊛ ‵ (finally T.the-row γ (receive ys (y .now) L .1)))) (fact 𝓤 (Tells r × Is P.the-row r (v ∷ []))))))
       receive-is v = some-last 𝓤 H A W P.the-row T.the-row γ (receive ys (y .now) L .1) v (‵ (flft κ q) ⊛ FrameAlive κ₁ q₁ y) (List Record × (Unit {0} × (Unit {0} × Unit {0}))) (λ z. z .0) (λ z. lasts receiving.ended (κ, (κ₁, tt)) with-frame z) (Receives ys (y .now) L)
-          (λ z. qed W (‵ (lasts receiving.ended (κ, (κ₁, tt)) with-frame z) ∷ []) ∵ fsplit ! $ fsplit ! $ keep ! (0 ∷ []) $ done !) Tells (λ r l e. (e .1, e .0))
+          (λ z. qed W (‵ (lasts receiving.ended (κ, (κ₁, tt)) with-frame z) ∷ []) ∵ fsplit ! $ fsplit ! $ keep ! (0 ∷ []) $ done !) Tells (λ r l e. (e .table, e .answer))

@@ -1,11 +1,11 @@
 -- What admission and removal answer, from what the searches found.
 -- Assumes nothing.
-use Prim.Native.Nat.{ℕ, zero, suc, _<_}
+use Prim.Native.Nat.{ℕ, suc, _<_}
 use mathlib.Core.Path.{_≡_, refl, sym, _∙_}
 use mathlib.Core.Bool.{Bool, true, false}
 use native.Mathlib.Omega.{arith}
 use lib.Dec.{ltb}
-use lib.ListN.{length, length-set}
+use lib.ListN.{length}
 use Rattle.refusal.specs.declared.Refusal.{Refusal}
 use Rattle.refusal.specs.declared.Refusal.the-variants.{TableTooLong, AlreadyAdmitted, TableFull, NothingToRemove}
 use Rattle.refusal.specs.Refusals.{firstOf}
@@ -17,8 +17,9 @@ use Rattle.table.specs.declared.Found.the-variants.{At, Nothing}
 use Rattle.table.specs.declared.Wanted.the-variants.{Holding, Unused}
 use Rattle.table.specs.declared.Target.{Target}
 use Rattle.table.specs.declared.Target.the-variants.{Place, Refuse}
-use Rattle.table.specs.Table.{Table, admit, remove, changed, changeNumber}
-use Rattle.table.specs.Private.{find, changeOf, placeOf, placeToAdmit, placeToRemove}
+use Rattle.table.specs.Table.{Table, admit, remove, ChangedBy, changeNumber}
+use Rattle.table.specs.Private.{find, changeOf, placeOf, changedAt, placeToAdmit, placeToRemove}
+use Rattle.table.proofs.Lengths.{length-changed}
 use Rattle.table.proofs.Searched.{found-at, found-none, found-within}
 
 -- ---- a table changed at a target
@@ -27,18 +28,11 @@ use Rattle.table.proofs.Searched.{found-at, found-none, found-within}
 abbrev pub Fits : Target → ℕ → Type 0
 Fits x n = changeNumber (changeOf x) ≡ 0 → placeOf x < n
 
-abbrev pub changedAt : Target → Table → Record → Table
-changedAt x t r = changed (changeNumber (changeOf x)) t (placeOf x) r
-
 pub changed-refused : (c : Refusal) (t : Table) (r : Record) → t ≡ changedAt (Refuse c) t r
 changed-refused c t r = let p = positive c in rw (p .1)
 
-same-length : (n : ℕ) (t : Table) (i : ℕ) (r : Record) → length (changed n t i r) ≡ length t
-same-length zero t i r = length-set t i r
-same-length (suc n) t i r = refl
-
 pub changed-length : (x : Target) (t : Table) (r : Record) → length (changedAt x t r) ≡ length t
-changed-length x t r = same-length (changeNumber (changeOf x)) t (placeOf x) r
+changed-length x t r = length-changed (changeNumber (changeOf x)) t (placeOf x) r
 
 place-fits : (i n : ℕ) → i < n → Fits (Place i) n
 place-fits i n h e = h
@@ -46,9 +40,16 @@ place-fits i n h e = h
 refuse-fits : (c : Refusal) (n : ℕ) → Fits (Refuse c) n
 refuse-fits c n e = let p = positive c in let none : suc (p .0) ≡ 0 = sym (p .1) ∙ e in absurd (omega (arith, none))
 
--- what a change at x of the table t to the record r says, where p is the number and the table that the rules say
+-- what a change at x of the table t to the record r says, where p is the number and the table that the rule says
 abbrev Says : Target → Table → Record → ℕ × Table → Type 0
 Says x t r p = (changeNumber (changeOf x) ≡ p .0) × ((changedAt x t r ≡ p .1) × Fits x (length t))
+
+-- so the change is by the rule, and its place is in the table
+abbrev ByRule : (Table → ℕ → ℕ × Table) → Target → Table → ℕ → Record → Type 0
+ByRule rule x t id r = ChangedBy rule t id (changeOf x) (changedAt x t r) × Fits x (length t)
+
+by-rule : (rule : Table → ℕ → ℕ × Table) (x : Target) (t : Table) (id : ℕ) (r : Record) → Says x t r (rule t id) → ByRule rule x t id r
+by-rule rule x t id r h = (record { number = h .0; table = h .1 .0 }, h .1 .1)
 
 -- ---- admission
 module _ (t : Table) (id : ℕ) where
@@ -71,8 +72,8 @@ module _ (t : Table) (id : ℕ) where
       let full = found-none t Unused k in
       rw (e, absent, full) (refl, (refl, refuse-fits TableFull (length t)))
 
-  pub admits : Admits (find t (Holding id)) (find t Unused)
-  admits = by-length (ltb 64 (length t)) refl
+  pub admits : ByRule admit (placeToAdmit (length t) (find t (Holding id)) (find t Unused)) t id (admitted id)
+  admits = by-rule admit (placeToAdmit (length t) (find t (Holding id)) (find t Unused)) t id (admitted id) (by-length (ltb 64 (length t)) refl)
     where
       by-length : (b : Bool) → ltb 64 (length t) ≡ b → Admits (find t (Holding id)) (find t Unused)
       by-length true e = admits-long (find t (Holding id)) (find t Unused) e
@@ -94,8 +95,8 @@ module _ (t : Table) (id : ℕ) where
       rw (e, there .0, there .1) (refl, (refl, place-fits i (length t) (found-within t (Holding id) h)))
   removes-short Nothing h e = let absent = found-none t (Holding id) h in rw (e, absent) (refl, (refl, refuse-fits NothingToRemove (length t)))
 
-  pub removes : Removes (find t (Holding id))
-  removes = by-length (ltb 64 (length t)) refl
+  pub removes : ByRule remove (placeToRemove (length t) (find t (Holding id))) t id unused
+  removes = by-rule remove (placeToRemove (length t) (find t (Holding id))) t id unused (by-length (ltb 64 (length t)) refl)
     where
       by-length : (b : Bool) → ltb 64 (length t) ≡ b → Removes (find t (Holding id))
       by-length true e = removes-long (find t (Holding id)) e

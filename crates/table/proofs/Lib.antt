@@ -1,3 +1,4 @@
+pub mod Lengths
 pub mod Machine
 pub mod Whole
 pub mod Callees

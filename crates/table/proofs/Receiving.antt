@@ -14,7 +14,7 @@ use Rattle.frame.specs.declared.Reading.the-variants.{Accepted, Refused}
 use Rattle.frame.specs.Layout.{fieldsOf}
 use Rattle.refusal.specs.Refusals.{numberOf, Check, _answers_, firstOf}
 use Rattle.frame.specs.Checks.{frameChecks, refusal}
-use Rattle.frame.specs.Reading.{Answer as ReadAnswer, answer, reading, told as readAs}
+use Rattle.frame.specs.Reading.{ReadAnswer, readingBy, reading, readAnswer}
 use Rattle.refusal.proofs.First.{positive, orElse, then}
 use Rattle.stream.specs.declared.Record.{Record}
 use Rattle.frame.proofs.Groups.{frame-numbered}
@@ -22,12 +22,12 @@ use Rattle.stream.specs.declared.Receipt.{Receipt}
 use Rattle.table.specs.declared.Served.{Served}
 use Rattle.stream.specs.declared.Receipt.the-variants as receipt
 use Rattle.table.specs.Private.{served}
-use Rattle.stream.specs.Answers.{answerOf, after, idOf, told}
+use Rattle.stream.specs.Answers.{answerOf, after, idOf, receiptAnswer}
 use Rattle.frame.proofs.Answers.{data-payload}
 use Rattle.stream.specs.Answers.{stepOf}
 use Rattle.table.specs.declared.Found.the-variants.{At, Nothing}
 use Rattle.table.specs.declared.Wanted.the-variants.{Holding}
-use Rattle.table.specs.Table.{Table, any, place, holds, at, numberWith, receive, receiveAlone, only}
+use Rattle.table.specs.Table.{Table, any, place, holds, at, numberWith, receive, receiveAlone, only, Receives, ReceivesAlone}
 use Rattle.table.specs.Private.{find, readingFor}
 use Rattle.table.proofs.Searched.{found-at, found-none}
 
@@ -51,16 +51,15 @@ past-20 true n e = absurd (omega (arith, e))
 past-20 false n e = e
 
 -- ---- what the reader said
-refused-as : (n : ℕ) (f : Fields) (r : Refusal) → readAs (Refused r) ≡ answer n f → n ≡ numberOf r
-refused-as zero f r e = ap (λ (a : ReadAnswer). a .number) (sym e)
-refused-as (suc n) f r e = ap (λ (a : ReadAnswer). a .number) (sym e)
+refused-as : (n : ℕ) (frame : List ℕ) (r : Refusal) → readAnswer (Refused r) ≡ readingBy n frame → n ≡ numberOf r
+refused-as n frame r e = ap (λ (a : ReadAnswer). a .number) (sym e)
 
-accepted-as : (n : ℕ) (f g : Fields) → readAs (Accepted f) ≡ answer n g → (n ≡ 0) × (f ≡ g)
-accepted-as zero f g e = (refl, ap (λ (a : ReadAnswer). a .fields) e)
-accepted-as (suc n) f g e = let same : 0 ≡ suc n = ap (λ (a : ReadAnswer). a .number) e in absurd (omega (arith, same))
+accepted-as : (n : ℕ) (f : Fields) (frame : List ℕ) → readAnswer (Accepted f) ≡ readingBy n frame → (n ≡ 0) × (f ≡ fieldsOf frame)
+accepted-as zero f frame e = (refl, ap (λ (a : ReadAnswer). a .fields) e)
+accepted-as (suc n) f frame e = let same : 0 ≡ suc n = ap (λ (a : ReadAnswer). a .number) e in absurd (omega (arith, same))
 
 -- `read_for`: past 64 records, and up to them
-pub too-long : (n : ℕ) (frame : List ℕ) → ltb 64 n ≡ true → readAs (Refused TableTooLong) ≡ readingFor n frame
+pub too-long : (n : ℕ) (frame : List ℕ) → ltb 64 n ≡ true → readAnswer (Refused TableTooLong) ≡ readingFor n frame
 unfolding readingFor firstOf
 too-long n frame e = rw e
 
@@ -74,35 +73,32 @@ module _ (r : Record) (frame : List ℕ) (L : ℕ) (accepted : refusal frame ≡
   unfolding served after stepOf
   served-after = rw (data-payload frame accepted)
 
-  served-answer : told (served r (fieldsOf frame) frame L .receipt) frame ≡ answerOf r frame L
+  served-answer : receiptAnswer (served r (fieldsOf frame) frame L .receipt) frame ≡ answerOf r frame L
   unfolding served answerOf stepOf
   served-answer = rw (data-payload frame accepted)
 
 -- ---- the answer and the table afterwards
-abbrev pub Receives : Table → List ℕ → ℕ → Receipt → Table → Type 0
-Receives t frame L r u = (told r frame ≡ receive t frame L .0) × (u ≡ receive t frame L .1)
-
 module _ (t : Table) (frame : List ℕ) (L : ℕ) where
   refuses : (r : Refusal) → numberWith t frame ≡ numberOf r → Receives t frame L (receipt.Refused r) t
   unfolding receive
-  refuses r e = let p = positive r in (rw (e, p .1), rw (e, p .1))
+  refuses r e = let p = positive r in record { answer = rw (e, p .1); table = rw (e, p .1) }
 
   accepts : numberWith t frame ≡ 0 → (i : ℕ) → place (holds (idOf frame)) t ≡ i → (answerOf (at t i) frame L ≡ receive t frame L .0) × (set t i (after (at t i) frame L) ≡ receive t frame L .1)
   unfolding receive
   accepts e i p = (rw (e, p), rw (e, p))
 
-  pub receives-refused : (r : Refusal) → readAs (Refused r) ≡ readingFor (length t) frame → Receives t frame L (receipt.Refused r) t
+  pub receives-refused : (r : Refusal) → readAnswer (Refused r) ≡ readingFor (length t) frame → Receives t frame L (receipt.Refused r) t
   unfolding readingFor orElse
-  receives-refused r e = let p = positive r in refuses r (rw (number-then t frame, refused-as (numberBefore (length t) frame) (fieldsOf frame) r e, p .1))
+  receives-refused r e = let p = positive r in refuses r (rw (number-then t frame, refused-as (numberBefore (length t) frame) frame r e, p .1))
 
   -- past the reader the search for the frame's stream decides
-  module _ (f : Fields) (e : readAs (Accepted f) ≡ readingFor (length t) frame) where
+  module _ (f : Fields) (e : readAnswer (Accepted f) ≡ readingFor (length t) frame) where
     abbrev id : ℕ
     id = f .header .stream .id
 
     accepted : (numberBefore (length t) frame ≡ 0) × (f ≡ fieldsOf frame)
     unfolding readingFor
-    accepted = accepted-as (numberBefore (length t) frame) f (fieldsOf frame) e
+    accepted = accepted-as (numberBefore (length t) frame) f frame e
 
     same-id : id ≡ idOf frame
     unfolding idOf
@@ -121,14 +117,15 @@ module _ (t : Table) (frame : List ℕ) (L : ℕ) where
         let found = found-at t (Holding id) h in
         let there : place (holds (idOf frame)) t ≡ i = rw (← same-id) (found .1) in
         let by-number = accepts (decided true (found .0)) i there in
-        let read : refusal frame ≡ 0 = past-20 (ltb 64 (length t)) (refusal frame) (accepted .0) in (
-          ap (λ (g : Fields). told (served (at t i) g frame L .receipt) frame) (accepted .1) ∙ served-answer (at t i) frame L read ∙ by-number .0,
-          ap (λ (g : Fields). set t i (served (at t i) g frame L .after)) (accepted .1) ∙ ap (set t i) (served-after (at t i) frame L read) ∙ by-number .1,
-        )
+        let read : refusal frame ≡ 0 = past-20 (ltb 64 (length t)) (refusal frame) (accepted .0) in
+        record {
+          answer = ap (λ (g : Fields). receiptAnswer (served (at t i) g frame L .receipt) frame) (accepted .1) ∙ served-answer (at t i) frame L read ∙ by-number .0;
+          table = ap (λ (g : Fields). set t i (served (at t i) g frame L .after)) (accepted .1) ∙ ap (set t i) (served-after (at t i) frame L read) ∙ by-number .1;
+        }
 
 -- ---- a record lent alone
-abbrev pub ReceivesAlone : Record → List ℕ → ℕ → Served → Type 0
-ReceivesAlone last frame L s = (told (s .receipt) frame ≡ receiveAlone last frame L .0) × (s .after ≡ receiveAlone last frame L .1)
+abbrev pub ServesAlone : Record → List ℕ → ℕ → Served → Type 0
+ServesAlone last frame L s = ReceivesAlone last frame L (s .receipt) (s .after)
 
 found-alone : (id : ℕ) (last : Record) (b : Bool) → holds id last ≡ b → find (last ∷ []) (Holding id) ≡ cond b (At 0) Nothing
 unfolding find any place
@@ -136,16 +133,16 @@ found-alone id last true e = rw e
 found-alone id last false e = rw e
 
 module _ (last : Record) (frame : List ℕ) (L : ℕ) where
-  alone : (s : Served) → Receives (last ∷ []) frame L (s .receipt) (s .after ∷ []) → ReceivesAlone last frame L s
+  alone : (s : Served) → Receives (last ∷ []) frame L (s .receipt) (s .after ∷ []) → ServesAlone last frame L s
   unfolding receiveAlone
-  alone s h = (h .0, ap only (h .1))
+  alone s h = record { answer = h .answer; lent = ap only (h .table) }
 
-  pub alone-refused : (r : Refusal) → readAs (Refused r) ≡ readingFor 1 frame → ReceivesAlone last frame L (record { after = last; receipt = receipt.Refused r })
+  pub alone-refused : (r : Refusal) → readAnswer (Refused r) ≡ readingFor 1 frame → ServesAlone last frame L (record { after = last; receipt = receipt.Refused r })
   alone-refused r e = alone (record { after = last; receipt = receipt.Refused r }) (receives-refused (last ∷ []) frame L r e)
 
-  module _ (f : Fields) (e : readAs (Accepted f) ≡ readingFor 1 frame) where
-    pub alone-unadmitted : holds (f .header .stream .id) last ≡ false → ReceivesAlone last frame L (record { after = last; receipt = receipt.Refused NotAdmitted })
+  module _ (f : Fields) (e : readAnswer (Accepted f) ≡ readingFor 1 frame) where
+    pub alone-unadmitted : holds (f .header .stream .id) last ≡ false → ServesAlone last frame L (record { after = last; receipt = receipt.Refused NotAdmitted })
     alone-unadmitted h = alone (record { after = last; receipt = receipt.Refused NotAdmitted }) (receives-unadmitted (last ∷ []) frame L f e (found-alone (f .header .stream .id) last false h))
 
-    pub alone-served : holds (f .header .stream .id) last ≡ true → ReceivesAlone last frame L (served last f frame L)
+    pub alone-served : holds (f .header .stream .id) last ≡ true → ServesAlone last frame L (served last f frame L)
     alone-served h = alone (served last f frame L) (receives-served (last ∷ []) frame L f e 0 (found-alone (f .header .stream .id) last true h))

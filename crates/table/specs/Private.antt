@@ -3,12 +3,12 @@ use Prim.Native.Nat.{ℕ}
 use mathlib.Core.Bool.{Bool, cond}
 use mathlib.Core.List.{List, _∷_}
 use lib.Dec.{ltb}
+use lib.ListN.{set}
 use Rattle.refusal.specs.declared.Refusal.the-variants.{TableTooLong, AlreadyAdmitted, TableFull, NothingToRemove}
-use Rattle.refusal.specs.Refusals.{_answers_, firstOf}
+use Rattle.refusal.specs.Refusals.{_answers_, firstOf, ifAccepted}
 use Rattle.frame.specs.Checks.{frameChecks}
-use Rattle.frame.specs.Layout.{fieldsOf}
 use Rattle.frame.specs.declared.layout.Fields.{Fields}
-use Rattle.frame.specs.Reading.{Answer, answer, dataOf}
+use Rattle.frame.specs.Reading.{ReadAnswer, readingBy, dataOf}
 use Rattle.stream.specs.declared.Record.{Record}
 use Rattle.stream.specs.declared.Receipt.the-variants.{Accepted}
 use Rattle.stream.specs.Step.{stepped}
@@ -21,13 +21,13 @@ use Rattle.table.specs.declared.Target.{Target}
 use Rattle.table.specs.declared.Target.the-variants.{Place, Refuse}
 use Rattle.table.specs.declared.Change.{Change}
 use Rattle.table.specs.declared.Change.the-variants.{Made, Refused}
-use Rattle.table.specs.Table.{Table, holds, isUnused, any, place}
+use Rattle.table.specs.Table.{Table, holds, isUnused, any, place, changeNumber}
 
 -- ---- The reader
 
 -- what the reader answers for a table of n records: its numbers and fields, 20 before all else
-unfoldable pub readingFor : ℕ → List ℕ → Answer
-readingFor n frame = answer (firstOf (ltb 64 n answers 20 ∷ frameChecks frame)) (fieldsOf frame)
+unfoldable pub readingFor : ℕ → List ℕ → ReadAnswer
+readingFor n frame = readingBy (firstOf (ltb 64 n answers 20 ∷ frameChecks frame)) frame
 
 -- ---- The search
 
@@ -66,9 +66,12 @@ abbrev pub placeOf : Target → ℕ
 placeOf (Place i) = i
 placeOf (Refuse r) = 0
 
--- ---- The step of a frame that has been read
+-- the table with a record at the target's place, where there is one
+abbrev pub changedAt : Target → Table → Record → Table
+changedAt x t r = ifAccepted (changeNumber (changeOf x)) (set t (placeOf x) r) t
 
--- the same for a frame that has been read, and its receipt
+-- ---- The step of a frame that has been read, and its receipt
+
 unfoldable pub served : Record → Fields → List ℕ → ℕ → Served
 served r f frame L =
     let s = stepped r f (dataOf frame (f .header .stream .«data_length»)) L in

@@ -1,14 +1,16 @@
 -- Tables of stream records: admission, removal and receiving (document 01, Stream records and Numbers answered).
-use Prim.Native.Nat.{ℕ, zero, suc}
+use Prim.Native.Nat.{ℕ, suc}
+use mathlib.Core.Path.{_≡_}
 use mathlib.Core.Bool.{Bool, false, not, cond, _&&_, _||_}
 use mathlib.Core.List.{List, [], _∷_, _++_}
 use lib.Dec.{eqb, ltb}
 use lib.ListN.{length, getD, set}
-use Rattle.refusal.specs.Refusals.{numberOf, Check, _answers_, firstOf}
+use Rattle.refusal.specs.Refusals.{numberOf, ifAccepted, Check, _answers_, firstOf}
 use Rattle.frame.specs.Checks.{frameChecks}
 use Rattle.stream.specs.declared.Record.{Record}
 use Rattle.stream.specs.Records.{unused, admitted}
-use Rattle.stream.specs.Answers.{Answer, refusedWith, answerOf, after, idOf}
+use Rattle.stream.specs.declared.Receipt.{Receipt}
+use Rattle.stream.specs.Answers.{Answer, refusedWith, answerOf, after, idOf, receiptAnswer}
 use Rattle.table.specs.declared.Change.{Change}
 use Rattle.table.specs.declared.Change.the-variants.{Made, Refused}
 
@@ -53,22 +55,27 @@ removeChecks t id =
     ∷ not (any (holds id) t) answers 23
     ∷ []
 
--- the table with another record at a place, where the number is 0; else as it was
-abbrev pub changed : ℕ → Table → ℕ → Record → Table
-changed zero t i r = set t i r
-changed (suc n) t i r = t
-
 -- the number answered, and the table afterwards: the unused record with the lowest place is taken
 unfoldable pub admit : Table → ℕ → ℕ × Table
-admit t id = (firstOf (admitChecks t id), changed (firstOf (admitChecks t id)) t (place isUnused t) (admitted id))
+admit t id =
+    let n = firstOf (admitChecks t id) in
+    (n, ifAccepted n (set t (place isUnused t) (admitted id)) t)
 
+-- the record that holds the id is unused again
 unfoldable pub remove : Table → ℕ → ℕ × Table
-remove t id = (firstOf (removeChecks t id), changed (firstOf (removeChecks t id)) t (place (holds id) t) unused)
+remove t id =
+    let n = firstOf (removeChecks t id) in
+    (n, ifAccepted n (set t (place (holds id) t) unused) t)
 
 -- what each case of an answer says
 abbrev pub changeNumber : Change → ℕ
 changeNumber Made = 0
 changeNumber (Refused r) = numberOf r
+
+-- what a call answers and leaves: c is the answer, t′ the table afterwards, by the rule of admission or of removal
+pub record ChangedBy (rule : Table → ℕ → ℕ × Table) (t : Table) (id : ℕ) (c : Change) (t′ : Table) : Type 0 where
+  pub number : changeNumber c ≡ rule t id .0
+  pub table : t′ ≡ rule t id .1
 
 -- ---- Receiving
 
@@ -85,14 +92,16 @@ unfoldable pub numberWith : Table → List ℕ → ℕ
 numberWith t frame = firstOf (receiveChecks t frame)
 
 -- what is answered, and the table afterwards: the record of the frame's stream takes the step
-abbrev pub receiveBy : ℕ → Table → List ℕ → ℕ → Answer × Table
-receiveBy zero t frame L =
-    let i = place (holds (idOf frame)) t in
-    (answerOf (at t i) frame L, set t i (after (at t i) frame L))
-receiveBy (suc n) t frame L = (refusedWith (suc n), t)
-
 unfoldable pub receive : Table → List ℕ → ℕ → Answer × Table
-receive t frame L = receiveBy (numberWith t frame) t frame L
+receive t frame L =
+    let n = numberWith t frame in
+    let i = place (holds (idOf frame)) t in
+    (ifAccepted n (answerOf (at t i) frame L) (refusedWith n), ifAccepted n (set t i (after (at t i) frame L)) t)
+
+-- what a call answers and leaves: r is the receipt, t′ the table afterwards
+pub record Receives (t : Table) (frame : List ℕ) (L : ℕ) (r : Receipt) (t′ : Table) : Type 0 where
+  pub answer : receiptAnswer r frame ≡ receive t frame L .0
+  pub table : t′ ≡ receive t frame L .1
 
 -- ---- A record lent alone is a table of one
 
@@ -101,3 +110,8 @@ only t = at t 0
 
 unfoldable pub receiveAlone : Record → List ℕ → ℕ → Answer × Record
 receiveAlone r frame L = ((receive (r ∷ []) frame L) .0, only ((receive (r ∷ []) frame L) .1))
+
+-- what a call answers and leaves: q is the receipt, r′ the record afterwards
+pub record ReceivesAlone (r : Record) (frame : List ℕ) (L : ℕ) (q : Receipt) (r′ : Record) : Type 0 where
+  pub answer : receiptAnswer q frame ≡ receiveAlone r frame L .0
+  pub lent : r′ ≡ receiveAlone r frame L .1

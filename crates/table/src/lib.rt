@@ -10,12 +10,11 @@ ghost use mathlib.Core.Path.{_≡_};
 ghost use Prim.Native.Nat.{_<_};
 ghost use lib.Dec.{ltb};
 ghost use lib.ListN.{length, set, replicate};
-ghost use Rattle.frame.specs.Reading.{told as readAs};
-ghost use Rattle.stream.specs.Answers.{told};
+ghost use Rattle.frame.specs.Reading.{readAnswer};
 ghost use Rattle.stream.specs.Records.{unused};
 ghost use Rattle.stream.specs.declared.Receipt.the-variants.{Refused};
-ghost use Rattle.table.specs.Table.{at, receive, receiveAlone, changeNumber, changed, admit, remove};
-ghost use Rattle.table.specs.Private.{wants, find, readingFor, placeToAdmit, placeToRemove, changeOf, placeOf, served};
+ghost use Rattle.table.specs.Table.{at, changeNumber, admit, remove, ChangedBy, Receives, ReceivesAlone};
+ghost use Rattle.table.specs.Private.{wants, find, readingFor, placeToAdmit, placeToRemove, changeOf, placeOf, changedAt, served};
 
 // What a search looks for: the record in use that holds an id, or an unused one.
 pub(crate) enum Wanted {
@@ -106,7 +105,7 @@ fn is_too_long(n: usize) -> bool
 
 // A frame for a table of n records: 20 before all else, then what the reader says.
 fn read_for(n: usize, frame: &[u8]) -> Reading
-    ensures { λ r. ⌜ readAs r ≡ readingFor n (now (frame .entry)) ⌝ }
+    ensures { λ r. ⌜ readAnswer r ≡ readingFor n (now (frame .entry)) ⌝ }
 {
     if is_too_long(n) {
         return Reading::Refused(Refusal::TableTooLong);
@@ -146,7 +145,7 @@ fn refused(last: Record, refusal: Refusal) -> Served
 
 // A frame for a record lent alone, by value.
 fn receive_alone(last: Record, frame: &[u8], arrival_time: u64) -> Served
-    ensures { λ r. ⌜ (told (r .receipt) (now (frame .entry)) ≡ receiveAlone last (now (frame .entry)) «arrival_time» .0) × (r .after ≡ receiveAlone last (now (frame .entry)) «arrival_time» .1) ⌝ }
+    ensures { λ r. ⌜ ReceivesAlone last (now (frame .entry)) «arrival_time» (r .receipt) (r .after) ⌝ }
 {
     match read_for(1, frame) {
         Reading::Refused(refusal) => refused(last, refusal),
@@ -162,7 +161,7 @@ fn receive_alone(last: Record, frame: &[u8], arrival_time: u64) -> Served
 
 // A frame for a record that is lent alone, as a table of one.
 pub fn receive_record(lent: &mut Record, frame: &[u8], arrival_time: u64) -> Receipt
-    ensures { λ r. ⌜ (told r (now (frame .entry)) ≡ receiveAlone (now (lent .entry)) (now (frame .entry)) «arrival_time» .0) × (now (lent .exit) ≡ receiveAlone (now (lent .entry)) (now (frame .entry)) «arrival_time» .1) ⌝ }
+    ensures { λ r. ⌜ ReceivesAlone (now (lent .entry)) (now (frame .entry)) «arrival_time» r (now (lent .exit)) ⌝ }
 {
     let s = receive_alone(*lent, frame, arrival_time);
     *lent = s.after;
@@ -171,7 +170,7 @@ pub fn receive_record(lent: &mut Record, frame: &[u8], arrival_time: u64) -> Rec
 
 // A frame for a table: one search, and the one record of its stream is read and stored.
 pub fn receive(table: &mut [Record], frame: &[u8], arrival_time: u64) -> Receipt
-    ensures { λ r. ⌜ (told r (now (frame .entry)) ≡ receive (now (table .entry)) (now (frame .entry)) «arrival_time» .0) × (now (table .exit) ≡ receive (now (table .entry)) (now (frame .entry)) «arrival_time» .1) ⌝ }
+    ensures { λ r. ⌜ Receives (now (table .entry)) (now (frame .entry)) «arrival_time» r (now (table .exit)) ⌝ }
 {
     match read_for(table.len(), frame) {
         Reading::Refused(refusal) => Receipt::Refused(refusal),
@@ -221,7 +220,7 @@ fn place_to_remove(n: usize, held: Found) -> Target
 // A record is stored at the target, where there is one.
 fn store(table: &mut [Record], target: Target, r: Record) -> Change
     requires { ⌜ (changeNumber (changeOf target) ≡ 0 → placeOf target < length (now table)) ⌝ }
-    ensures { λ c. ⌜ (c ≡ changeOf target) × (now (table .exit) ≡ changed (changeNumber (changeOf target)) (now (table .entry)) (placeOf target) r) ⌝ }
+    ensures { λ c. ⌜ (c ≡ changeOf target) × (now (table .exit) ≡ changedAt target (now (table .entry)) r) ⌝ }
 {
     match target {
         Target::Refuse(refusal) => Change::Refused(refusal),
@@ -234,7 +233,7 @@ fn store(table: &mut [Record], target: Target, r: Record) -> Change
 
 // The stream is admitted at the lowest unused place, with nothing seen.
 pub fn admit(table: &mut [Record], id: u64) -> Change
-    ensures { λ r. ⌜ (changeNumber r ≡ admit (now (table .entry)) id .0) × (now (table .exit) ≡ admit (now (table .entry)) id .1) ⌝ }
+    ensures { λ r. ⌜ ChangedBy admit (now (table .entry)) id r (now (table .exit)) ⌝ }
 {
     let held = find(table, Wanted::Holding(id));
     let free = find(table, Wanted::Unused);
@@ -244,7 +243,7 @@ pub fn admit(table: &mut [Record], id: u64) -> Change
 
 // The stream's record is unused again, with every field zero.
 pub fn remove(table: &mut [Record], id: u64) -> Change
-    ensures { λ r. ⌜ (changeNumber r ≡ remove (now (table .entry)) id .0) × (now (table .exit) ≡ remove (now (table .entry)) id .1) ⌝ }
+    ensures { λ r. ⌜ ChangedBy remove (now (table .entry)) id r (now (table .exit)) ⌝ }
 {
     let held = find(table, Wanted::Holding(id));
     let target = place_to_remove(table.len(), held);
@@ -253,7 +252,7 @@ pub fn remove(table: &mut [Record], id: u64) -> Change
 
 // Receiving, admission and removal over a table of 64 records by value.
 pub fn receive_in(table: [Record; 64], frame: &[u8], arrival_time: u64) -> Received
-    ensures { λ r. ⌜ (told (r .receipt) (now (frame .entry)) ≡ receive table (now (frame .entry)) «arrival_time» .0) × (r .table ≡ receive table (now (frame .entry)) «arrival_time» .1) ⌝ }
+    ensures { λ r. ⌜ Receives table (now (frame .entry)) «arrival_time» (r .receipt) (r .table) ⌝ }
 {
     let mut records = table;
     let receipt = receive(&mut records, frame, arrival_time);
@@ -264,7 +263,7 @@ pub fn receive_in(table: [Record; 64], frame: &[u8], arrival_time: u64) -> Recei
 }
 
 pub fn admit_in(table: [Record; 64], id: u64) -> Changed
-    ensures { λ r. ⌜ (changeNumber (r .change) ≡ admit table id .0) × (r .table ≡ admit table id .1) ⌝ }
+    ensures { λ r. ⌜ ChangedBy admit table id (r .change) (r .table) ⌝ }
 {
     let mut records = table;
     let change = admit(&mut records, id);
@@ -275,7 +274,7 @@ pub fn admit_in(table: [Record; 64], id: u64) -> Changed
 }
 
 pub fn remove_in(table: [Record; 64], id: u64) -> Changed
-    ensures { λ r. ⌜ (changeNumber (r .change) ≡ remove table id .0) × (r .table ≡ remove table id .1) ⌝ }
+    ensures { λ r. ⌜ ChangedBy remove table id (r .change) (r .table) ⌝ }
 {
     let mut records = table;
     let change = remove(&mut records, id);

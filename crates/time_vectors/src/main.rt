@@ -1,5 +1,11 @@
 // Presentation times at zero, at both ends of the offset, at the wraps of L and T, and at both ends of the arrival time: each is
 // reckoned and printed.
+use frame::layout::Avtp;
+use frame::layout::Cip;
+use frame::layout::Ethernet;
+use frame::layout::Fields;
+use frame::layout::Header;
+use frame::layout::Stream;
 use libc::STDOUT_FILENO;
 use presentation::Kind;
 
@@ -41,9 +47,61 @@ fn show(arrival_time: u64, stamp: u32) {
     text(b"\n");
 }
 
-// A frame with SPH 0 or 1, tv 0 or 1, and AVTP timestamp 1,500: which stamp is read.
+// The fields of a sound frame with SPH 0 or 1, tv 0 or 1, and AVTP timestamp 1,500.
+fn header(tv: bool) -> Header {
+    Header {
+        ethernet: Ethernet {
+            destination: 0x91e0_f000_fe01,
+            source: 0x0200_0000_0001,
+            tpid: 0x8100,
+            pcp: 3,
+            cfi: false,
+            vid: 2,
+            ethertype: 0x22f0,
+        },
+        avtp: Avtp {
+            cd: false,
+            subtype: 0,
+            sv: true,
+            version: 0,
+            mr: false,
+            gv: false,
+            tv,
+            sequence: 0,
+            tu: false,
+        },
+        stream: Stream {
+            id: 1,
+            timestamp: 1500,
+            gateway_info: 0,
+            data_length: 16,
+            tag: 1,
+            channel: 31,
+            sy: 0,
+        },
+    }
+}
+
+fn fields(sph: bool, tv: bool) -> Fields {
+    Fields {
+        header: header(tv),
+        cip: Cip {
+            sid: 63,
+            dbs: 1,
+            fraction_number: 0,
+            qpc: 0,
+            sph,
+            dbc: 0,
+            fmt: 16,
+            fdf: 2,
+            low_half: 0xffff,
+        },
+    }
+}
+
+// Which stamp is read.
 fn show_stamp(sph: bool, tv: bool, payload: &[u8]) {
-    let timing = presentation::judge_time(1000, sph, tv, 1500, payload);
+    let timing = presentation::judge_time(1000, fields(sph, tv), payload);
     number(b"SPH=", if sph { 1 } else { 0 });
     number(b" tv=", if tv { 1 } else { 0 });
     number(b" payload=", payload.len() as u64);

@@ -13,7 +13,7 @@ use lib.ListN.{length, getD, take, drop, length-append, length-drop, length-repl
 use lib.Pow.{pow-add, pow-mono, shl-lt}
 use lib.Seq.{length-take-le, take-add, drop-drop, drop-cons}
 use Rattle.wire.specs.Bits.{width, Fit}
-use Rattle.wire.specs.Numbers.{octets, number, bytes, numberAt, numberOr0, littleEndianAt, littleEndianOr0}
+use Rattle.wire.specs.Numbers.{Bytes, octets, number, bytes, numberAt, numberOr0, littleEndianAt, littleEndianOr0}
 use Rattle.wire.proofs.Bits.{joined, length-unpack, pack-lt, unpack-pack, pack-unpack}
 
 width-octets : (k : ℕ) → width (octets k) ≡ 8 * k
@@ -27,16 +27,16 @@ length-bytes k n = length-unpack (octets k) n ∙ length-replicate k 8
 pub number-of : (k n : ℕ) → n < 2 ^ (8 * k) → number (bytes k n) ≡ n
 number-of k n h = rw (length-bytes k n) (pack-unpack (octets k) n (rw (width-octets k) h))
 
-fit-octets : (bs : List ℕ) → ((i : ℕ) → getD bs i 0 < 256) → Fit (octets (length bs)) bs
+fit-octets : (bs : List ℕ) → Bytes bs → Fit (octets (length bs)) bs
 fit-octets [] h = tt
 fit-octets (b ∷ bs) h = (h 0, fit-octets bs (λ i. h (suc i)))
 
 -- bytes spell a number that they hold
-pub number-lt : (bs : List ℕ) → ((i : ℕ) → getD bs i 0 < 256) → number bs < 2 ^ (8 * length bs)
+pub number-lt : (bs : List ℕ) → Bytes bs → number bs < 2 ^ (8 * length bs)
 number-lt bs h = rw (← width-octets (length bs)) (pack-lt (octets (length bs)) bs (fit-octets bs h))
 
 -- bytes, out of the number that they spell
-pub bytes-number : (bs : List ℕ) → ((i : ℕ) → getD bs i 0 < 256) → bytes (length bs) (number bs) ≡ bs
+pub bytes-number : (bs : List ℕ) → Bytes bs → bytes (length bs) (number bs) ≡ bs
 bytes-number bs h = unpack-pack (octets (length bs)) bs (fit-octets bs h)
 
 -- ---- reading

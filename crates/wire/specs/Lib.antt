@@ -1,3 +1,4 @@
 pub mod Bits
 pub mod Numbers
+pub mod Parts
 pub mod RoundTrips

@@ -1,10 +1,14 @@
 -- Numbers on the wire are big-endian (document 01, Frame layout): rows of fields of eight bits.
-use Prim.Native.Nat.{ℕ, _+_}
+use Prim.Native.Nat.{ℕ, _+_, _<_}
 use mathlib.Core.Bool.{cond}
 use mathlib.Core.List.{List, reverse}
-use lib.ListN.{length, take, drop, replicate}
+use lib.ListN.{length, getD, take, drop, replicate}
 use lib.Dec.{leb}
 use Rattle.wire.specs.Bits.{pack, unpack}
+
+-- every element is a byte; past its end a list reads as 0
+abbrev pub Bytes : List ℕ → Type 0
+Bytes bs = (i : ℕ) → getD bs i 0 < 256
 
 -- the row of k bytes
 abbrev pub octets : ℕ → List ℕ

@@ -2,12 +2,12 @@
 use Prim.Native.Nat.{ℕ, _*_, _^_, _<_}
 use mathlib.Core.Path.{_≡_}
 use mathlib.Core.List.{List}
-use lib.ListN.{length, getD}
+use lib.ListN.{length}
 use Rattle.wire.specs.Bits.{width, pack, unpack, Fit}
-use Rattle.wire.specs.Numbers.{number, bytes}
+use Rattle.wire.specs.Numbers.{number, bytes, Bytes}
 
 pub record RoundTrips : Type 0 where
   pub fields-of-row : (ws vs : List ℕ) → Fit ws vs → unpack ws (pack ws vs) ≡ vs
   pub row-of-fields : (ws : List ℕ) (n : ℕ) → n < 2 ^ width ws → pack ws (unpack ws n) ≡ n
   pub number-of-bytes : (k n : ℕ) → n < 2 ^ (8 * k) → number (bytes k n) ≡ n
-  pub bytes-of-number : (bs : List ℕ) → ((i : ℕ) → getD bs i 0 < 256) → bytes (length bs) (number bs) ≡ bs
+  pub bytes-of-number : (bs : List ℕ) → Bytes bs → bytes (length bs) (number bs) ≡ bs

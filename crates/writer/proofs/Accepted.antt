@@ -12,46 +12,46 @@ use Rattle.frame.specs.Checks.{misaddressed, partialBlock}
 use Rattle.refusal.proofs.First.{Clear, clear}
 use Rattle.writer.specs.declared.given.Given.{Given}
 use Rattle.writer.specs.Frames.{vlanValues, packetValues, sourceValues, fractionValues, formatValues}
-use Rattle.writer.specs.Writing.{fits, addressRow, addressFits, originFits, formatFits, fieldsFit, writeChecks, writeRefusal}
+use Rattle.writer.specs.Writing.{fits, addressRow, ethernetFits, streamFits, cipFits, fieldsFit, writeChecks, writeRefusal}
 use Rattle.writer.proofs.Fits.{fit}
 
 -- each value is within the bits of its field
 pub record Fitting (g : Given) : Type 0 where
-  pub addresses : Fit addressRow (g .address .destination ∷ g .address .source ∷ [])
-  pub vlan : Fit vlanRow (vlanValues (g .address))
-  pub packet : Fit packetRow (packetValues (g .origin))
-  pub source : Fit sourceRow (sourceValues (g .format))
-  pub fraction : Fit fractionRow (fractionValues (g .format))
-  pub format : Fit formatRow (formatValues (g .format))
+  pub addresses : Fit addressRow (g .ethernet .destination ∷ g .ethernet .source ∷ [])
+  pub vlan : Fit vlanRow (vlanValues (g .ethernet))
+  pub packet : Fit packetRow (packetValues (g .stream))
+  pub source : Fit sourceRow (sourceValues (g .cip))
+  pub fraction : Fit fractionRow (fractionValues (g .cip))
+  pub cip : Fit formatRow (formatValues (g .cip))
 
 pub record Accepted (g : Given) (n room : ℕ) : Type 0 where
-  pub addressed : misaddressed (g .address .destination) (g .address .source) ≡ false
+  pub addressed : misaddressed (g .ethernet .destination) (g .ethernet .source) ≡ false
   pub fits : fieldsFit g ≡ true
-  pub whole : partialBlock n (g .format .dbs) ≡ false
+  pub whole : partialBlock n (g .cip .dbs) ≡ false
   pub short : n ≤ 1468
   pub output : 50 + n ≤ room
 
 pub fitting : (g : Given) → fieldsFit g ≡ true → Fitting g
-unfolding fieldsFit addressFits originFits formatFits
+unfolding fieldsFit ethernetFits streamFits cipFits
 fitting g e =
-    let a = fits addressRow (g .address .destination ∷ g .address .source ∷ []) in
-    let v = fits vlanRow (vlanValues (g .address)) in
-    let p = fits packetRow (packetValues (g .origin)) in
-    let s = fits sourceRow (sourceValues (g .format)) in
-    let q = fits fractionRow (fractionValues (g .format)) in
-    let f = fits formatRow (formatValues (g .format)) in
+    let a = fits addressRow (g .ethernet .destination ∷ g .ethernet .source ∷ []) in
+    let v = fits vlanRow (vlanValues (g .ethernet)) in
+    let p = fits packetRow (packetValues (g .stream)) in
+    let s = fits sourceRow (sourceValues (g .cip)) in
+    let q = fits fractionRow (fractionValues (g .cip)) in
+    let f = fits formatRow (formatValues (g .cip)) in
     let all = and-yes (a && v && p) (s && q && f) (subst T (sym e) tt) in
     let front = and-yes (a && v) p (all .0) in
-    let address = and-yes a v (front .0) in
+    let ethernet = and-yes a v (front .0) in
     let last = and-yes (s && q) f (all .1) in
     let cip = and-yes s q (last .0) in
     record {
-      addresses = fit addressRow (g .address .destination ∷ g .address .source ∷ []) (address .0);
-      vlan = fit vlanRow (vlanValues (g .address)) (address .1);
-      packet = fit packetRow (packetValues (g .origin)) (front .1);
-      source = fit sourceRow (sourceValues (g .format)) (cip .0);
-      fraction = fit fractionRow (fractionValues (g .format)) (cip .1);
-      format = fit formatRow (formatValues (g .format)) (last .1);
+      addresses = fit addressRow (g .ethernet .destination ∷ g .ethernet .source ∷ []) (ethernet .0);
+      vlan = fit vlanRow (vlanValues (g .ethernet)) (ethernet .1);
+      packet = fit packetRow (packetValues (g .stream)) (front .1);
+      source = fit sourceRow (sourceValues (g .cip)) (cip .0);
+      fraction = fit fractionRow (fractionValues (g .cip)) (cip .1);
+      cip = fit formatRow (formatValues (g .cip)) (last .1);
     }
 
 module _ (g : Given) (n room : ℕ) (ok : writeRefusal g n room ≡ 0) where

@@ -11,22 +11,22 @@ use Rattle.writer.specs.declared.Written.the-variants.{Sent, Refused}
 use Rattle.refusal.specs.declared.Verdict.{Verdict}
 use Rattle.refusal.specs.declared.Verdict.the-variants as verdict
 use Rattle.writer.specs.declared.given.Given.{Given}
-use Rattle.writer.specs.Frames.{frameOf}
-use Rattle.writer.specs.Writing.{writeRefusal, next, told, writing, output}
+use Rattle.writer.specs.Frames.{frameBytes}
+use Rattle.writer.specs.Writing.{writeRefusal, advanced, writeAnswer, writing, output}
 
 module _ (s : Sender) (g : Given) (payload out : List ℕ) where
   -- the answer and the output of a write that is refused, and of one that is not
-  refuses : (r : Refusal) → numberOf r ≡ writeRefusal g (length payload) (length out) → (told (Refused r s) ≡ writing s g payload (length out)) × (out ≡ output s g payload out)
+  refuses : (r : Refusal) → numberOf r ≡ writeRefusal g (length payload) (length out) → (writeAnswer (Refused r s) ≡ writing s g payload (length out)) × (out ≡ output s g payload out)
   unfolding writing output
   refuses r e = let p = positive r in rw (← e, p .1) (refl, refl)
 
-  pub sends : {t : Sender} {exit : List ℕ} → writeRefusal g (length payload) (length out) ≡ 0 → t ≡ next s g payload → exit ≡ frameOf s g payload ++ drop (50 + length payload) out
-      → (told (Sent t) ≡ writing s g payload (length out)) × (exit ≡ output s g payload out)
+  pub sends : {t : Sender} {exit : List ℕ} → writeRefusal g (length payload) (length out) ≡ 0 → t ≡ advanced s g payload → exit ≡ frameBytes s g payload ++ drop (50 + length payload) out
+      → (writeAnswer (Sent t) ≡ writing s g payload (length out)) × (exit ≡ output s g payload out)
   unfolding writing output
   sends e f h = rw (e, f, h) (refl, refl)
 
   module _ {v : Verdict} (checked : verdictNumber v ≡ writeRefusal g (length payload) (length out)) where
-    pub refused : {r : Refusal} → v ≡ verdict.Refused r → (told (Refused r s) ≡ writing s g payload (length out)) × (out ≡ output s g payload out)
+    pub refused : {r : Refusal} → v ≡ verdict.Refused r → (writeAnswer (Refused r s) ≡ writing s g payload (length out)) × (out ≡ output s g payload out)
     refused {r} z = refuses r (ap verdictNumber (sym z) ∙ checked)
 
     pub allowed : v ≡ verdict.Passed → writeRefusal g (length payload) (length out) ≡ 0

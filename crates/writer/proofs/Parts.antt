@@ -5,10 +5,10 @@ use mathlib.Core.List.{List, [], _∷_, _++_}
 use native.Mathlib.Omega.{arith}
 use lib.ListN.{length, getD, take, drop, length-drop, take-append-drop}
 use lib.Seq.{length-take-le, getD-drop, drop-drop}
-use Rattle.wire.specs.Numbers.{bytes, part, numberAt}
+use Rattle.wire.specs.Numbers.{Bytes, bytes, part, numberAt}
 use Rattle.wire.proofs.Numbers.{bytes-number, number-lt}
 
-bytes-taken : (k : ℕ) (bs : List ℕ) → ((i : ℕ) → getD bs i 0 < 256) → (i : ℕ) → getD (take k bs) i 0 < 256
+bytes-taken : (k : ℕ) (bs : List ℕ) → Bytes bs → Bytes (take k bs)
 bytes-taken zero bs byte i = omega arith
 bytes-taken (suc k) [] byte i = omega arith
 bytes-taken (suc k) (b ∷ bs) byte zero = byte 0
@@ -21,8 +21,8 @@ cut bs at k = rw (← drop-drop k at bs) (take-append-drop k (drop at bs))
 pub length-part : (bs : List ℕ) (at k : ℕ) → at + k ≤ length bs → length (part at k bs) ≡ k
 length-part bs at k h = length-take-le k (drop at bs) (rw (length-drop at bs) (omega arith))
 
-module _ (bs : List ℕ) (byte : (i : ℕ) → getD bs i 0 < 256) (at k : ℕ) (h : at + k ≤ length bs) where
-  byte-part : (i : ℕ) → getD (part at k bs) i 0 < 256
+module _ (bs : List ℕ) (byte : Bytes bs) (at k : ℕ) (h : at + k ≤ length bs) where
+  byte-part : Bytes (part at k bs)
   byte-part = bytes-taken k (drop at bs) (λ i. rw (getD-drop at bs i 0) (byte (at + i)))
 
   pub number-part-lt : numberAt at k bs < 2 ^ (8 * k)

@@ -7,10 +7,10 @@ use native.Mathlib.Nat.{mod-lt}
 use native.Mathlib.Omega.{arith}
 use borrow.Author.Tests.{eqb-true, not-false, ltb-false, le-ltb}
 use lib.Dec.{eqb, ltb, lit≤}
-use lib.ListN.{length, getD, take, drop}
+use lib.ListN.{length, take, drop}
 use lib.Seq.{take-at}
 use Rattle.wire.specs.Bits.{bits, width, pack, unpack, flag, bit}
-use Rattle.wire.specs.Numbers.{bytes, part, numberAt}
+use Rattle.wire.specs.Numbers.{Bytes, bytes, part, numberAt}
 use Rattle.wire.proofs.Bits.{pack-unpack}
 use Rattle.frame.specs.Layout.{vlanRow, subtypeRow, validRow, uncertainRow, packetRow, sourceRow, fractionRow, formatRow, ethernetOf, avtpOf, streamOf, cipOf, headerOf, fieldsOf}
 use Rattle.frame.specs.declared.layout.Fields.{Fields}
@@ -19,9 +19,9 @@ use Rattle.frame.specs.Checks.{misaddressed, partialBlock, lengthChecks, ethern
 use Rattle.frame.specs.Reading.{payloadOf}
 use Rattle.refusal.proofs.First.{clear}
 use Rattle.frame.proofs.Groups.{accepted-room}
-use Rattle.writer.specs.Frames.{vlanValues, packetValues, sourceValues, fractionValues, formatValues, ethernetBytes, avtpBytes, streamBytes, sourceBytes, formatBytes, headerBytes, frameOf}
-use Rattle.writer.specs.Writing.{output, addressRow, addressFits, originFits, formatFits, fieldsFit, writeChecks, writeRefusal}
-use Rattle.writer.specs.WriteBack.{Plain, senderOf, givenOf}
+use Rattle.writer.specs.Frames.{vlanValues, packetValues, sourceValues, fractionValues, formatValues, ethernetBytes, avtpBytes, streamBytes, sourceBytes, formatBytes, headerBytes, frameBytes}
+use Rattle.writer.specs.Writing.{output, addressRow, ethernetFits, streamFits, cipFits, fieldsFit, writeChecks, writeRefusal}
+use Rattle.writer.specs.WriteBack.{FixedBits, senderOf, givenOf}
 use Rattle.writer.proofs.ReadBack.{size, output-of}
 use Rattle.writer.proofs.Fits.{fit-true}
 use Rattle.writer.proofs.Parts.{cut, length-part, number-part-lt, bytes-part}
@@ -63,8 +63,8 @@ sound n f e =
     let lengths = clear (readChecks n f) tt e in
     let ethernet = lengths .1 .1 in
     let avtp = ethernet .1 .1 .1 in
-    let address = avtp .1 .1 .1 .1 in
-    let stream = address .1 in
+    let addresses = avtp .1 .1 .1 .1 in
+    let stream = addresses .1 in
     record {
       short = ltb-false 1518 n (lengths .1 .0);
       tpid = same-as _ 0x8100 (ethernet .0);
@@ -74,12 +74,12 @@ sound n f e =
       subtype = same-as _ 0 (avtp .1 .0);
       version = same-as _ 0 (avtp .1 .1 .0);
       sv = not-false _ (avtp .1 .1 .1 .0);
-      addressed = address .0;
+      addressed = addresses .0;
       tag = same-as _ 1 (stream .1 .0);
       whole = stream .1 .1 .1 .0;
     }
 
-module _ (frame : List ℕ) (byte : (i : ℕ) → getD frame i 0 < 256) (ok : refusal frame ≡ 0) where
+module _ (frame : List ℕ) (byte : Bytes frame) (ok : refusal frame ≡ 0) where
   checked : Sound (length frame) (fieldsOf frame)
   unfolding refusal frameChecks
   checked = sound (length frame) (fieldsOf frame) ok
@@ -104,18 +104,18 @@ module _ (frame : List ℕ) (byte : (i : ℕ) → getD frame i 0 < 256) (ok : re
   -- ---- the number that a write is answered
 
   fields-fit : fieldsFit (givenOf (fieldsOf frame)) ≡ true
-  unfolding fieldsFit addressFits originFits formatFits givenOf fieldsOf headerOf ethernetOf avtpOf streamOf cipOf
+  unfolding fieldsFit ethernetFits streamFits cipFits givenOf fieldsOf headerOf ethernetOf avtpOf streamOf cipOf
   fields-fit =
       let g = givenOf (fieldsOf frame) in
-      let sph = bit-lt (g .format .sph) in
+      let sph = bit-lt (g .cip .sph) in
       let destination = lt 0 6 (lit≤ tt) in
       let source = lt 6 6 (lit≤ tt) in
-      let a = fit-true addressRow (g .address .destination ∷ g .address .source ∷ []) (omega arith) in
-      let v = fit-true vlanRow (vlanValues (g .address)) (omega arith) in
-      let p = fit-true packetRow (packetValues (g .origin)) (omega arith) in
-      let s = fit-true sourceRow (sourceValues (g .format)) (omega arith) in
-      let q = fit-true fractionRow (fractionValues (g .format)) (omega arith) in
-      let f = fit-true formatRow (formatValues (g .format)) (omega arith) in
+      let a = fit-true addressRow (g .ethernet .destination ∷ g .ethernet .source ∷ []) (omega arith) in
+      let v = fit-true vlanRow (vlanValues (g .ethernet)) (omega arith) in
+      let p = fit-true packetRow (packetValues (g .stream)) (omega arith) in
+      let s = fit-true sourceRow (sourceValues (g .cip)) (omega arith) in
+      let q = fit-true fractionRow (fractionValues (g .cip)) (omega arith) in
+      let f = fit-true formatRow (formatValues (g .cip)) (omega arith) in
       λ i. (a i && v i) && p i && (s i && q i && f i)
 
   pub write-number : (room : ℕ) → writeRefusal (givenOf (fieldsOf frame)) (length (payloadOf frame)) room ≡ cond (ltb room (50 + length (payloadOf frame))) 35 0
@@ -143,9 +143,9 @@ module _ (frame : List ℕ) (byte : (i : ℕ) → getD frame i 0 < 256) (ok : re
   behind : payloadOf frame ++ drop (50 + length (payloadOf frame)) frame ≡ drop 50 frame
   behind = rw (length-payload, payload-part) (cut frame 50 (numberAt 38 2 frame - 8))
 
-  module _ (plain : Plain frame) where
-    whole : frameOf (senderOf (fieldsOf frame)) (givenOf (fieldsOf frame)) (payloadOf frame) ++ drop (50 + length (payloadOf frame)) frame ≡ frame
-    unfolding senderOf givenOf fieldsOf headerOf ethernetOf avtpOf streamOf cipOf ethernetBytes avtpBytes streamBytes sourceBytes formatBytes headerBytes frameOf
+  module _ (fixed : FixedBits frame) where
+    whole : frameBytes (senderOf (fieldsOf frame)) (givenOf (fieldsOf frame)) (payloadOf frame) ++ drop (50 + length (payloadOf frame)) frame ≡ frame
+    unfolding senderOf givenOf fieldsOf headerOf ethernetOf avtpOf streamOf cipOf ethernetBytes avtpBytes streamBytes sourceBytes formatBytes headerBytes frameBytes
     whole =
         let c = checked in
         let r = room in
@@ -159,31 +159,31 @@ module _ (frame : List ℕ) (byte : (i : ℕ) → getD frame i 0 < 256) (ok : re
         (row 14 2 vlanRow (lit≤ tt) refl (λ i. bits 13 3 vlan ∷ flag-is 12 vlan (c .cfi) i ∷ bits 0 12 vlan ∷ [])
         (put 16 2 (lit≤ tt) (c .ethertype)
         (row 18 1 subtypeRow (lit≤ tt) refl (λ i. flag-is 7 (at 18) (c .cd) i ∷ c .subtype i ∷ [])
-        (row 19 1 validRow (lit≤ tt) refl (λ i. flag-is 7 (at 19) (c .sv) i ∷ c .version i ∷ flagged 3 (at 19) i ∷ sym (plain .r) i ∷ flagged 1 (at 19) i ∷ flagged 0 (at 19) i ∷ [])
+        (row 19 1 validRow (lit≤ tt) refl (λ i. flag-is 7 (at 19) (c .sv) i ∷ c .version i ∷ flagged 3 (at 19) i ∷ sym (fixed .r) i ∷ flagged 1 (at 19) i ∷ flagged 0 (at 19) i ∷ [])
         (put 20 1 (lit≤ tt) refl
-        (row 21 1 uncertainRow (lit≤ tt) refl (λ i. sym (plain .reserved) i ∷ flagged 0 (at 21) i ∷ [])
+        (row 21 1 uncertainRow (lit≤ tt) refl (λ i. sym (fixed .reserved) i ∷ flagged 0 (at 21) i ∷ [])
         (put 22 8 (lit≤ tt) refl
         (put 30 4 (lit≤ tt) refl
         (put 34 4 (lit≤ tt) refl
         (put 38 2 (lit≤ tt) len
-        (row 40 2 packetRow (lit≤ tt) refl (λ i. c .tag i ∷ bits 8 6 packet ∷ sym (plain .tcode) i ∷ bits 0 4 packet ∷ [])
-        (row 42 1 sourceRow (lit≤ tt) refl (λ i. sym (plain .first-indicator) i ∷ bits 0 6 (at 42) ∷ [])
+        (row 40 2 packetRow (lit≤ tt) refl (λ i. c .tag i ∷ bits 8 6 packet ∷ sym (fixed .tcode) i ∷ bits 0 4 packet ∷ [])
+        (row 42 1 sourceRow (lit≤ tt) refl (λ i. sym (fixed .first-indicator) i ∷ bits 0 6 (at 42) ∷ [])
         (put 43 1 (lit≤ tt) refl
-        (row 44 1 fractionRow (lit≤ tt) refl (λ i. bits 6 2 (at 44) ∷ bits 3 3 (at 44) ∷ flagged 2 (at 44) i ∷ sym (plain .cip-reserved) i ∷ [])
+        (row 44 1 fractionRow (lit≤ tt) refl (λ i. bits 6 2 (at 44) ∷ bits 3 3 (at 44) ∷ flagged 2 (at 44) i ∷ sym (fixed .cip-reserved) i ∷ [])
         (put 45 1 (lit≤ tt) refl
-        (row 46 1 formatRow (lit≤ tt) refl (λ i. sym (plain .second-indicator) i ∷ bits 0 6 (at 46) ∷ [])
+        (row 46 1 formatRow (lit≤ tt) refl (λ i. sym (fixed .second-indicator) i ∷ bits 0 6 (at 46) ∷ [])
         (put 47 1 (lit≤ tt) refl
         (put 48 2 (lit≤ tt) refl
         behind))))))))))))))))))))
 
-    pub write-bytes : frameOf (senderOf (fieldsOf frame)) (givenOf (fieldsOf frame)) (payloadOf frame) ≡ take (50 + length (payloadOf frame)) frame
+    write-bytes : frameBytes (senderOf (fieldsOf frame)) (givenOf (fieldsOf frame)) (payloadOf frame) ≡ take (50 + length (payloadOf frame)) frame
     write-bytes =
         let k = 50 + length (payloadOf frame) in
-        sym (take-at (frameOf (senderOf (fieldsOf frame)) (givenOf (fieldsOf frame)) (payloadOf frame)) (drop k frame) k (size _ _ _)) ∙ ap (take k) whole
+        sym (take-at (frameBytes (senderOf (fieldsOf frame)) (givenOf (fieldsOf frame)) (payloadOf frame)) (drop k frame) k (size _ _ _)) ∙ ap (take k) whole
 
-    pub written : (out : List ℕ) → 50 + length (payloadOf frame) ≤ length out
+    pub left : (out : List ℕ) → 50 + length (payloadOf frame) ≤ length out
         → output (senderOf (fieldsOf frame)) (givenOf (fieldsOf frame)) (payloadOf frame) out ≡ take (50 + length (payloadOf frame)) frame ++ drop (50 + length (payloadOf frame)) out
-    written out h =
+    left out h =
         let n = length (payloadOf frame) in
         let e = write-number (length out) ∙ ap (λ (b : Bool). cond b 35 0) (le-ltb (length out) (50 + n) h) in
         output-of (senderOf (fieldsOf frame)) (givenOf (fieldsOf frame)) (payloadOf frame) out e ∙ ap (λ (l : List ℕ). l ++ drop (50 + n) out) write-bytes

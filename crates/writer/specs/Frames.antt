@@ -6,16 +6,16 @@ use Rattle.wire.specs.Bits.{pack, bit}
 use Rattle.wire.specs.Numbers.{bytes}
 use Rattle.frame.specs.Layout.{vlanRow, subtypeRow, validRow, uncertainRow, packetRow, sourceRow, fractionRow, formatRow}
 use Rattle.writer.specs.declared.Sender.{Sender}
-use Rattle.writer.specs.declared.given.Address.{Address}
-use Rattle.writer.specs.declared.given.Marks.{Marks}
-use Rattle.writer.specs.declared.given.Origin.{Origin}
-use Rattle.writer.specs.declared.given.Format.{Format}
+use Rattle.writer.specs.declared.given.EthernetFields.{EthernetFields}
+use Rattle.writer.specs.declared.given.AvtpFields.{AvtpFields}
+use Rattle.writer.specs.declared.given.StreamFields.{StreamFields}
+use Rattle.writer.specs.declared.given.CipFields.{CipFields}
 use Rattle.writer.specs.declared.given.Given.{Given}
 
 -- ---- The values that stand in the rows of several fields, from the top
 
 -- PCP, CFI, VID
-abbrev pub vlanValues : Address → List ℕ
+abbrev pub vlanValues : EthernetFields → List ℕ
 vlanValues a = a .pcp ∷ 0 ∷ a .vid ∷ []
 
 -- cd, subtype
@@ -23,33 +23,33 @@ abbrev pub subtypeValues : List ℕ
 subtypeValues = 0 ∷ 0 ∷ []
 
 -- sv, version, mr, r, gv, tv
-abbrev pub validValues : Marks → List ℕ
+abbrev pub validValues : AvtpFields → List ℕ
 validValues m = 1 ∷ 0 ∷ bit (m .mr) ∷ 0 ∷ bit (m .gv) ∷ bit (m .tv) ∷ []
 
 -- reserved, tu
-abbrev pub uncertainValues : Marks → List ℕ
+abbrev pub uncertainValues : AvtpFields → List ℕ
 uncertainValues m = 0 ∷ bit (m .tu) ∷ []
 
 -- tag, channel, tcode, sy
-abbrev pub packetValues : Origin → List ℕ
+abbrev pub packetValues : StreamFields → List ℕ
 packetValues o = 1 ∷ o .channel ∷ 10 ∷ o .sy ∷ []
 
 -- indicator, SID
-abbrev pub sourceValues : Format → List ℕ
+abbrev pub sourceValues : CipFields → List ℕ
 sourceValues f = 0 ∷ f .sid ∷ []
 
 -- FN, QPC, SPH, reserved
-abbrev pub fractionValues : Format → List ℕ
+abbrev pub fractionValues : CipFields → List ℕ
 fractionValues f = f .«fraction_number» ∷ f .qpc ∷ bit (f .sph) ∷ 0 ∷ []
 
 -- indicator, FMT
-abbrev pub formatValues : Format → List ℕ
+abbrev pub formatValues : CipFields → List ℕ
 formatValues f = 2 ∷ f .fmt ∷ []
 
 -- ---- The bytes
 
 -- bytes 0 to 17: destination, source, TPID, the VLAN tag, Ethertype
-unfoldable pub ethernetBytes : Address → List ℕ
+unfoldable pub ethernetBytes : EthernetFields → List ℕ
 ethernetBytes a =
     bytes 6 (a .destination)
     ++ bytes 6 (a .source)
@@ -58,7 +58,7 @@ ethernetBytes a =
     ++ bytes 2 0x22F0
 
 -- bytes 18 to 21: the AVTPDU starts at byte 18
-unfoldable pub avtpBytes : ℕ → Marks → List ℕ
+unfoldable pub avtpBytes : ℕ → AvtpFields → List ℕ
 avtpBytes sequence m =
     bytes 1 (pack subtypeRow subtypeValues)
     ++ bytes 1 (pack validRow (validValues m))
@@ -66,7 +66,7 @@ avtpBytes sequence m =
     ++ bytes 1 (pack uncertainRow (uncertainValues m))
 
 -- bytes 22 to 41: stream id, timestamp, gateway info, stream_data_length, the header of an IEEE 1394 packet
-unfoldable pub streamBytes : Origin → ℕ → List ℕ
+unfoldable pub streamBytes : StreamFields → ℕ → List ℕ
 streamBytes o dataLength =
     bytes 8 (o .id)
     ++ bytes 4 (o .timestamp)
@@ -75,7 +75,7 @@ streamBytes o dataLength =
     ++ bytes 2 (pack packetRow (packetValues o))
 
 -- bytes 42 to 45: the first quadlet of the CIP header
-unfoldable pub sourceBytes : Format → ℕ → List ℕ
+unfoldable pub sourceBytes : CipFields → ℕ → List ℕ
 sourceBytes f dbc =
     bytes 1 (pack sourceRow (sourceValues f))
     ++ bytes 1 (f .dbs)
@@ -83,7 +83,7 @@ sourceBytes f dbc =
     ++ bytes 1 dbc
 
 -- bytes 46 to 49: the second
-unfoldable pub formatBytes : Format → List ℕ
+unfoldable pub formatBytes : CipFields → List ℕ
 formatBytes f =
     bytes 1 (pack formatRow (formatValues f))
     ++ bytes 1 (f .fdf)
@@ -92,11 +92,11 @@ formatBytes f =
 -- the 50 bytes in front of a payload of n bytes; stream_data_length counts the CIP header too
 unfoldable pub headerBytes : Sender → Given → ℕ → List ℕ
 headerBytes s g n =
-    ethernetBytes (g .address)
-    ++ avtpBytes (s .sequence) (g .marks)
-    ++ streamBytes (g .origin) (n + 8)
-    ++ sourceBytes (g .format) (s .dbc)
-    ++ formatBytes (g .format)
+    ethernetBytes (g .ethernet)
+    ++ avtpBytes (s .sequence) (g .avtp)
+    ++ streamBytes (g .stream) (n + 8)
+    ++ sourceBytes (g .cip) (s .dbc)
+    ++ formatBytes (g .cip)
 
-unfoldable pub frameOf : Sender → Given → List ℕ → List ℕ
-frameOf s g payload = headerBytes s g (length payload) ++ payload
+unfoldable pub frameBytes : Sender → Given → List ℕ → List ℕ
+frameBytes s g payload = headerBytes s g (length payload) ++ payload

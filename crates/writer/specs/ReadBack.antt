@@ -8,8 +8,8 @@ use Rattle.frame.specs.declared.layout.Fields.{Fields}
 use Rattle.frame.specs.Reading.{reading, payloadOf}
 use Rattle.writer.specs.declared.Sender.{Sender}
 use Rattle.writer.specs.declared.given.Given.{Given}
-use Rattle.writer.specs.Frames.{frameOf}
-use Rattle.writer.specs.Writing.{writeRefusal, writing, output}
+use Rattle.writer.specs.Frames.{frameBytes}
+use Rattle.writer.specs.Writing.{writing, output}
 
 -- what the types of a sender and of the given fields say, beside what the checks of a write ask
 pub record SenderTyped (s : Sender) : Type 0 where
@@ -17,12 +17,12 @@ pub record SenderTyped (s : Sender) : Type 0 where
   pub dbc : s .dbc < 2 ^ 8
 
 pub record GivenTyped (g : Given) : Type 0 where
-  pub id : g .origin .id < 2 ^ 64
-  pub timestamp : g .origin .timestamp < 2 ^ 32
-  pub gateway-info : g .origin .«gateway_info» < 2 ^ 32
-  pub dbs : g .format .dbs < 2 ^ 8
-  pub fdf : g .format .fdf < 2 ^ 8
-  pub low-half : g .format .«low_half» < 2 ^ 16
+  pub id : g .stream .id < 2 ^ 64
+  pub timestamp : g .stream .timestamp < 2 ^ 32
+  pub gateway-info : g .stream .«gateway_info» < 2 ^ 32
+  pub dbs : g .cip .dbs < 2 ^ 8
+  pub fdf : g .cip .fdf < 2 ^ 8
+  pub low-half : g .cip .«low_half» < 2 ^ 16
 
 -- what stands in a frame with a payload of n bytes: the given fields, the sender's two numbers, and what a writer sets
 unfoldable pub fieldsWritten : Sender → Given → ℕ → Fields
@@ -30,12 +30,12 @@ fieldsWritten s g n =
     record {
       header = record {
         ethernet = record {
-          destination = g .address .destination;
-          source = g .address .source;
+          destination = g .ethernet .destination;
+          source = g .ethernet .source;
           tpid = 0x8100;
-          pcp = g .address .pcp;
+          pcp = g .ethernet .pcp;
           cfi = false;
-          vid = g .address .vid;
+          vid = g .ethernet .vid;
           ethertype = 0x22F0;
         };
         avtp = record {
@@ -43,44 +43,48 @@ fieldsWritten s g n =
           subtype = 0;
           sv = true;
           version = 0;
-          mr = g .marks .mr;
-          gv = g .marks .gv;
-          tv = g .marks .tv;
+          mr = g .avtp .mr;
+          gv = g .avtp .gv;
+          tv = g .avtp .tv;
           sequence = s .sequence;
-          tu = g .marks .tu;
+          tu = g .avtp .tu;
         };
         stream = record {
-          id = g .origin .id;
-          timestamp = g .origin .timestamp;
-          «gateway_info» = g .origin .«gateway_info»;
+          id = g .stream .id;
+          timestamp = g .stream .timestamp;
+          «gateway_info» = g .stream .«gateway_info»;
           «data_length» = n + 8;
           tag = 1;
-          channel = g .origin .channel;
-          sy = g .origin .sy;
+          channel = g .stream .channel;
+          sy = g .stream .sy;
         };
       };
       cip = record {
-        sid = g .format .sid;
-        dbs = g .format .dbs;
-        «fraction_number» = g .format .«fraction_number»;
-        qpc = g .format .qpc;
-        sph = g .format .sph;
+        sid = g .cip .sid;
+        dbs = g .cip .dbs;
+        «fraction_number» = g .cip .«fraction_number»;
+        qpc = g .cip .qpc;
+        sph = g .cip .sph;
         dbc = s .dbc;
-        fmt = g .format .fmt;
-        fdf = g .format .fdf;
-        «low_half» = g .format .«low_half»;
+        fmt = g .cip .fmt;
+        fdf = g .cip .fdf;
+        «low_half» = g .cip .«low_half»;
       };
     }
 
--- An accepted write's frame, with any padding that keeps it within 1,518 bytes, is accepted with those fields and that payload.
+-- the frame that a write leaves: the first 50 + n bytes of the output
+unfoldable pub frameLeft : Sender → Given → List ℕ → List ℕ → List ℕ
+frameLeft s g payload out = take (50 + length payload) (output s g payload out)
+
+-- What an accepted write leaves, with any padding that keeps it within 1,518 bytes, is accepted with those fields and that payload.
 pub record ReadBack : Type 0 where
-  pub size : (s : Sender) (g : Given) (payload : List ℕ) → length (frameOf s g payload) ≡ 50 + length payload
-  pub fields : (s : Sender) (g : Given) (payload padding : List ℕ) (room : ℕ)
-      → SenderTyped s → GivenTyped g → writeRefusal g (length payload) room ≡ 0 → length (frameOf s g payload ++ padding) ≤ 1518
-      → reading (frameOf s g payload ++ padding) ≡ record { number = 0; fields = fieldsWritten s g (length payload) }
-  pub payload : (s : Sender) (g : Given) (payload padding : List ℕ) (room : ℕ)
-      → SenderTyped s → GivenTyped g → writeRefusal g (length payload) room ≡ 0 → length (frameOf s g payload ++ padding) ≤ 1518
-      → payloadOf (frameOf s g payload ++ padding) ≡ payload
-  -- and it is what an accepted write leaves at the front of the output
-  pub written : (s : Sender) (g : Given) (payload out : List ℕ) → writing s g payload (length out) .number ≡ 0
-      → take (50 + length payload) (output s g payload out) ≡ frameOf s g payload
+  pub bytes : (s : Sender) (g : Given) (payload out : List ℕ) → writing s g payload (length out) .number ≡ 0
+      → frameLeft s g payload out ≡ frameBytes s g payload
+  pub size : (s : Sender) (g : Given) (payload out : List ℕ) → writing s g payload (length out) .number ≡ 0
+      → length (frameLeft s g payload out) ≡ 50 + length payload
+  pub fields : (s : Sender) (g : Given) (payload out padding : List ℕ) → SenderTyped s → GivenTyped g
+      → writing s g payload (length out) .number ≡ 0 → length (frameLeft s g payload out ++ padding) ≤ 1518
+      → reading (frameLeft s g payload out ++ padding) ≡ record { number = 0; fields = fieldsWritten s g (length payload) }
+  pub payload : (s : Sender) (g : Given) (payload out padding : List ℕ) → SenderTyped s → GivenTyped g
+      → writing s g payload (length out) .number ≡ 0 → length (frameLeft s g payload out ++ padding) ≤ 1518
+      → payloadOf (frameLeft s g payload out ++ padding) ≡ payload

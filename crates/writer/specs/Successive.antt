@@ -1,14 +1,15 @@
 -- One sender's successive frames (document 01, Sending).
-use Prim.Native.Nat.{ℕ, zero, suc, _+_, _%_, _≤_}
+use Prim.Native.Nat.{ℕ, _+_, _%_, _≤_}
 use mathlib.Core.Path.{_≡_}
 use mathlib.Core.List.{List, [], _∷_, _++_}
 use lib.ListN.{length}
+use Rattle.refusal.specs.Refusals.{ifAccepted}
 use Rattle.frame.specs.Layout.{fieldsOf}
 use Rattle.frame.specs.Checks.{refusal}
 use Rattle.frame.specs.Reading.{payloadOf, blocksOf}
 use Rattle.writer.specs.declared.Sender.{Sender}
 use Rattle.writer.specs.declared.given.Given.{Given}
-use Rattle.writer.specs.Frames.{frameOf}
+use Rattle.writer.specs.Frames.{frameBytes}
 use Rattle.writer.specs.Writing.{writing}
 use Rattle.writer.specs.ReadBack.{SenderTyped, GivenTyped}
 use Rattle.writer.specs.WriteBack.{senderOf}
@@ -19,32 +20,27 @@ pub record Call : Type 0 where
   pub payload : List ℕ
   pub room : ℕ
 
--- a refused write sends no frame
-abbrev pub sent : ℕ → List ℕ → List (List ℕ)
-sent zero frame = frame ∷ []
-sent (suc n) frame = []
-
--- the frames of successive writes: each uses the sender that the one before left
+-- the frames of successive writes: each uses the sender that the one before left, and a refused one sends no frame
 unfoldable pub successive : Sender → List Call → List (List ℕ)
 successive s [] = []
 successive s (c ∷ cs) =
     let a = writing s (c .given) (c .payload) (c .room) in
-    sent (a .number) (frameOf s (c .given) (c .payload)) ++ successive (a .sender) cs
+    ifAccepted (a .number) (frameBytes s (c .given) (c .payload) ∷ []) [] ++ successive (a .sender) cs
 
 abbrev pub CallsTyped : List Call → Type 0
 CallsTyped [] = Unit {0}
 CallsTyped (c ∷ cs) = GivenTyped (c .given) × CallsTyped cs
 
 -- the frames as they are received, each with its padding and within 1,518 bytes
-abbrev pub Received : List (List ℕ) → List (List ℕ) → Type 0
-Received [] [] = Unit {0}
-Received [] (r ∷ rs) = ⊥
-Received (f ∷ fs) [] = ⊥
-Received (f ∷ fs) (r ∷ rs) = ((padding : List ℕ) × (r ≡ f ++ padding) × (length r ≤ 1518)) × Received fs rs
+abbrev pub Delivered : List (List ℕ) → List (List ℕ) → Type 0
+Delivered [] [] = Unit {0}
+Delivered [] (r ∷ rs) = ⊥
+Delivered (f ∷ fs) [] = ⊥
+Delivered (f ∷ fs) (r ∷ rs) = ((padding : List ℕ) × (r ≡ f ++ padding) × (length r ≤ 1518)) × Delivered fs rs
 
 -- the numbers after those of a frame: the sequence number moved on by 1, the block count by the frame's own blocks, modulo 256
-unfoldable pub after : List ℕ → Sender
-after frame =
+unfoldable pub senderAfter : List ℕ → Sender
+senderAfter frame =
     record {
       sequence = (fieldsOf frame .header .avtp .sequence + 1) % 256;
       dbc = (fieldsOf frame .cip .dbc + blocksOf (payloadOf frame) (fieldsOf frame .cip .dbs)) % 256;
@@ -53,8 +49,8 @@ after frame =
 -- each frame is accepted, the first with these numbers, and each later one with those after the frame before it
 abbrev pub Gapless : Sender → List (List ℕ) → Type 0
 Gapless s [] = Unit {0}
-Gapless s (frame ∷ frames) = (refusal frame ≡ 0) × (senderOf (fieldsOf frame) ≡ s) × Gapless (after frame) frames
+Gapless s (frame ∷ frames) = (refusal frame ≡ 0) × (senderOf (fieldsOf frame) ≡ s) × Gapless (senderAfter frame) frames
 
 pub record Successive : Type 0 where
   pub gapless : (s : Sender) (calls : List Call) (received : List (List ℕ))
-      → SenderTyped s → CallsTyped calls → Received (successive s calls) received → Gapless s received
+      → SenderTyped s → CallsTyped calls → Delivered (successive s calls) received → Gapless s received

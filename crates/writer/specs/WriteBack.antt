@@ -1,23 +1,22 @@
 -- Writing what was read gives the bytes that were read.
-use Prim.Native.Nat.{ℕ, _+_, _<_, _≤_}
+use Prim.Native.Nat.{ℕ, _+_, _≤_}
 use mathlib.Core.Path.{_≡_}
 use mathlib.Core.Bool.{cond}
 use mathlib.Core.List.{List, _++_}
 use lib.Dec.{ltb}
-use lib.ListN.{length, getD, take, drop}
+use lib.ListN.{length, take, drop}
 use Rattle.wire.specs.Bits.{field}
-use Rattle.wire.specs.Numbers.{numberAt}
+use Rattle.wire.specs.Numbers.{numberAt, Bytes}
 use Rattle.frame.specs.declared.layout.Fields.{Fields}
 use Rattle.frame.specs.Layout.{validRow, uncertainRow, packetRow, sourceRow, fractionRow, formatRow, fieldsOf}
 use Rattle.frame.specs.Checks.{refusal}
 use Rattle.frame.specs.Reading.{payloadOf}
 use Rattle.writer.specs.declared.Sender.{Sender}
 use Rattle.writer.specs.declared.given.Given.{Given}
-use Rattle.writer.specs.Frames.{frameOf}
 use Rattle.writer.specs.Writing.{writeRefusal, output}
 
 -- the bits that readers ignore hold what writers set: r and the reserved bits 0, tcode 10, the indicators 00 and 10
-pub record Plain (frame : List ℕ) : Type 0 where
+pub record FixedBits (frame : List ℕ) : Type 0 where
   pub r : field 3 validRow (numberAt 19 1 frame) ≡ 0
   pub reserved : field 0 uncertainRow (numberAt 21 1 frame) ≡ 0
   pub tcode : field 2 packetRow (numberAt 40 2 frame) ≡ 10
@@ -33,26 +32,26 @@ senderOf f = record { sequence = f .header .avtp .sequence; dbc = f .cip .dbc }
 unfoldable pub givenOf : Fields → Given
 givenOf f =
     record {
-      address = record {
+      ethernet = record {
         destination = f .header .ethernet .destination;
         source = f .header .ethernet .source;
         pcp = f .header .ethernet .pcp;
         vid = f .header .ethernet .vid;
       };
-      marks = record {
+      avtp = record {
         mr = f .header .avtp .mr;
         gv = f .header .avtp .gv;
         tv = f .header .avtp .tv;
         tu = f .header .avtp .tu;
       };
-      origin = record {
+      stream = record {
         id = f .header .stream .id;
         timestamp = f .header .stream .timestamp;
         «gateway_info» = f .header .stream .«gateway_info»;
         channel = f .header .stream .channel;
         sy = f .header .stream .sy;
       };
-      format = record {
+      cip = record {
         sid = f .cip .sid;
         dbs = f .cip .dbs;
         «fraction_number» = f .cip .«fraction_number»;
@@ -65,13 +64,10 @@ givenOf f =
     }
 
 -- A write of what an accepted frame holds is refused only for a short output, whatever its ignored bits are; where they hold what
--- writers set, the written frame is the frame up to its padding.
+-- writers set, it leaves the frame up to its padding, and behind that the output as it was.
 pub record WriteBack : Type 0 where
-  pub number : (frame : List ℕ) (room : ℕ) → ((i : ℕ) → getD frame i 0 < 256) → refusal frame ≡ 0
+  pub number : (frame : List ℕ) (room : ℕ) → Bytes frame → refusal frame ≡ 0
       → writeRefusal (givenOf (fieldsOf frame)) (length (payloadOf frame)) room ≡ cond (ltb room (50 + length (payloadOf frame))) 35 0
-  pub bytes : (frame : List ℕ) → ((i : ℕ) → getD frame i 0 < 256) → refusal frame ≡ 0 → Plain frame
-      → frameOf (senderOf (fieldsOf frame)) (givenOf (fieldsOf frame)) (payloadOf frame) ≡ take (50 + length (payloadOf frame)) frame
-  -- so a write with room for it leaves the frame up to its padding at the front of the output
-  pub written : (frame out : List ℕ) → ((i : ℕ) → getD frame i 0 < 256) → refusal frame ≡ 0 → Plain frame → 50 + length (payloadOf frame) ≤ length out
+  pub left : (frame out : List ℕ) → Bytes frame → refusal frame ≡ 0 → FixedBits frame → 50 + length (payloadOf frame) ≤ length out
       → output (senderOf (fieldsOf frame)) (givenOf (fieldsOf frame)) (payloadOf frame) out
       ≡ take (50 + length (payloadOf frame)) frame ++ drop (50 + length (payloadOf frame)) out

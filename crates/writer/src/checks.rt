@@ -1,16 +1,16 @@
 // Document 01's checks of a write, in their order.
-use crate::given::Address;
-use crate::given::Format;
+use crate::given::CipFields;
+use crate::given::EthernetFields;
 use crate::given::Given;
-use crate::given::Origin;
+use crate::given::StreamFields;
 use refusal::Refusal;
 use refusal::Verdict;
 ghost use mathlib.Core.Path.{_≡_};
-ghost use Rattle.writer.specs.Writing.{addressFits, originFits, formatFits, fieldsFit, writeRefusal};
+ghost use Rattle.writer.specs.Writing.{ethernetFits, streamFits, cipFits, fieldsFit, writeRefusal};
 ghost use Rattle.refusal.specs.Refusals.{verdictNumber};
 
-fn address_fits(a: Address) -> bool
-    ensures { λ r. ⌜ r ≡ addressFits a ⌝ }
+fn ethernet_fits(a: EthernetFields) -> bool
+    ensures { λ r. ⌜ r ≡ ethernetFits a ⌝ }
 {
     (a.destination < 0x1_0000_0000_0000)
         & (a.source < 0x1_0000_0000_0000)
@@ -18,14 +18,14 @@ fn address_fits(a: Address) -> bool
         & (a.vid < 4096)
 }
 
-fn origin_fits(o: Origin) -> bool
-    ensures { λ r. ⌜ r ≡ originFits o ⌝ }
+fn stream_fits(o: StreamFields) -> bool
+    ensures { λ r. ⌜ r ≡ streamFits o ⌝ }
 {
     (o.channel < 64) & (o.sy < 16)
 }
 
-fn format_fits(f: Format) -> bool
-    ensures { λ r. ⌜ r ≡ formatFits f ⌝ }
+fn cip_fits(f: CipFields) -> bool
+    ensures { λ r. ⌜ r ≡ cipFits f ⌝ }
 {
     (f.sid < 64) & (f.fraction_number < 4) & (f.qpc < 8) & (f.fmt < 64)
 }
@@ -33,20 +33,20 @@ fn format_fits(f: Format) -> bool
 fn fits(given: Given) -> bool
     ensures { λ r. ⌜ r ≡ fieldsFit given ⌝ }
 {
-    address_fits(given.address) & origin_fits(given.origin) & format_fits(given.format)
+    ethernet_fits(given.ethernet) & stream_fits(given.stream) & cip_fits(given.cip)
 }
 
 // May `n` bytes of payload be written into `room` bytes?
 pub(crate) fn check(given: Given, n: usize, room: usize) -> Verdict
     ensures { λ r. ⌜ verdictNumber r ≡ writeRefusal given n room ⌝ }
 {
-    if frame::checks::misaddressed(given.address.destination, given.address.source) {
+    if frame::checks::misaddressed(given.ethernet.destination, given.ethernet.source) {
         return Verdict::Refused(Refusal::WriteWrongAddress);
     }
     if !fits(given) {
         return Verdict::Refused(Refusal::WriteFieldTooWide);
     }
-    if frame::checks::partial_block(n, given.format.dbs) {
+    if frame::checks::partial_block(n, given.cip.dbs) {
         return Verdict::Refused(Refusal::WritePartialBlock);
     }
     if 1468 < n {

@@ -1,7 +1,7 @@
 // What a caller gives of a frame: every field of the layout but those that a writer sets.
 
 // The Ethernet header. Addresses are 48-bit numbers.
-pub struct Address {
+pub struct EthernetFields {
     pub destination: u64,
     pub source: u64,
     pub pcp: u8,
@@ -9,7 +9,7 @@ pub struct Address {
 }
 
 // Media clock restart, gateway info valid, timestamp valid, timestamp uncertain.
-pub struct Marks {
+pub struct AvtpFields {
     pub mr: bool,
     pub gv: bool,
     pub tv: bool,
@@ -17,7 +17,7 @@ pub struct Marks {
 }
 
 // The stream, its AVTP timestamp, and what is left open of the header of an IEEE 1394 packet.
-pub struct Origin {
+pub struct StreamFields {
     pub id: u64,
     pub timestamp: u32,
     pub gateway_info: u32,
@@ -26,7 +26,7 @@ pub struct Origin {
 }
 
 // The CIP header, without its block count.
-pub struct Format {
+pub struct CipFields {
     pub sid: u8,
     pub dbs: u8,
     pub fraction_number: u8,
@@ -39,8 +39,8 @@ pub struct Format {
 }
 
 pub struct Given {
-    pub address: Address,
-    pub marks: Marks,
-    pub origin: Origin,
-    pub format: Format,
+    pub ethernet: EthernetFields,
+    pub avtp: AvtpFields,
+    pub stream: StreamFields,
+    pub cip: CipFields,
 }

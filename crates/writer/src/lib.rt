@@ -13,7 +13,7 @@ ghost use lib.ListN.{length};
 ghost use Rattle.writer.specs.ReadBack.{ReadBack};
 ghost use Rattle.writer.specs.Successive.{Successive};
 ghost use Rattle.writer.specs.WriteBack.{WriteBack};
-ghost use Rattle.writer.specs.Writing.{next, told, writing, output};
+ghost use Rattle.writer.specs.Writing.{advanced, writeAnswer, writing, output};
 
 // The next sequence number and block count.
 pub struct Sender {
@@ -29,11 +29,11 @@ pub enum Written {
 }
 
 // The sender after a frame with this payload.
-fn next(sender: Sender, given: Given, payload: &[u8]) -> Sender
+fn advance(sender: Sender, given: Given, payload: &[u8]) -> Sender
     requires { ⌜ length (now payload) ≤ 1468 ⌝ }
-    ensures { λ r. ⌜ r ≡ next sender given (now (payload .entry)) ⌝ }
+    ensures { λ r. ⌜ r ≡ advanced sender given (now (payload .entry)) ⌝ }
 {
-    let blocks = frame::blocks(payload, given.format.dbs);
+    let blocks = frame::blocks(payload, given.cip.dbs);
     Sender {
         sequence: ((sender.sequence as usize + 1) % 256) as u8,
         dbc: ((sender.dbc as usize + blocks) % 256) as u8,
@@ -42,7 +42,7 @@ fn next(sender: Sender, given: Given, payload: &[u8]) -> Sender
 
 // Writes a frame at the front of `out` and moves the sender on; or refuses, and changes nothing.
 pub fn write(sender: Sender, given: Given, payload: &[u8], out: &mut [u8]) -> Written
-    ensures { λ r. ⌜ told r ≡ writing sender given (now (payload .entry)) (length (now (out .entry))) ⌝ }
+    ensures { λ r. ⌜ writeAnswer r ≡ writing sender given (now (payload .entry)) (length (now (out .entry))) ⌝ }
     ensures { λ _. ⌜ now (out .exit) ≡ output sender given (now (payload .entry)) (now (out .entry)) ⌝ }
 {
     let verdict = checks::check(given, payload.len(), out.len());
@@ -50,7 +50,7 @@ pub fn write(sender: Sender, given: Given, payload: &[u8], out: &mut [u8]) -> Wr
         return Written::Refused(refusal, sender);
     }
     output::put_frame(sender, given, payload, out);
-    Written::Sent(next(sender, given, payload))
+    Written::Sent(advance(sender, given, payload))
 }
 
 // What is written is read back as it was given.

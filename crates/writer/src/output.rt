@@ -1,10 +1,10 @@
 // A frame's bytes, written where document 01's layout has them.
 use crate::Sender;
-use crate::given::Address;
-use crate::given::Format;
+use crate::given::AvtpFields;
+use crate::given::CipFields;
+use crate::given::EthernetFields;
 use crate::given::Given;
-use crate::given::Marks;
-use crate::given::Origin;
+use crate::given::StreamFields;
 use crate::rows;
 ghost use mathlib.Core.Path.{_≡_};
 ghost use mathlib.Core.Bool.{true};
@@ -15,7 +15,7 @@ ghost use lib.Seq.{sets};
 ghost use Rattle.wire.specs.Bits.{Fit};
 ghost use Rattle.wire.specs.Numbers.{bytes};
 ghost use Rattle.frame.specs.Layout.{vlanRow, packetRow, sourceRow, fractionRow, formatRow};
-ghost use Rattle.writer.specs.Frames.{vlanValues, packetValues, sourceValues, fractionValues, formatValues, ethernetBytes, avtpBytes, streamBytes, sourceBytes, formatBytes, frameOf};
+ghost use Rattle.writer.specs.Frames.{vlanValues, packetValues, sourceValues, fractionValues, formatValues, ethernetBytes, avtpBytes, streamBytes, sourceBytes, formatBytes, frameBytes};
 ghost use Rattle.writer.specs.Writing.{fieldsFit};
 
 // Writes the lowest `k` bytes of `n` from place `at` on, the most significant first.
@@ -32,56 +32,56 @@ fn put(out: &mut [u8], at: usize, k: usize, n: u64)
     }
 }
 
-fn put_ethernet(out: &mut [u8], address: Address)
-    requires { ⌜ (18 ≤ length (now out)) × Fit vlanRow (vlanValues address) ⌝ }
-    ensures { λ _. ⌜ now (out .exit) ≡ sets (now (out .entry)) 0 (ethernetBytes address) ⌝ }
+fn put_ethernet(out: &mut [u8], ethernet: EthernetFields)
+    requires { ⌜ (18 ≤ length (now out)) × Fit vlanRow (vlanValues ethernet) ⌝ }
+    ensures { λ _. ⌜ now (out .exit) ≡ sets (now (out .entry)) 0 (ethernetBytes ethernet) ⌝ }
 {
-    put(out, 0, 6, address.destination);
-    put(out, 6, 6, address.source);
+    put(out, 0, 6, ethernet.destination);
+    put(out, 6, 6, ethernet.source);
     put(out, 12, 2, 0x8100);
-    put(out, 14, 2, rows::vlan(address));
+    put(out, 14, 2, rows::vlan(ethernet));
     put(out, 16, 2, 0x22f0);
 }
 
-fn put_avtp(out: &mut [u8], sequence: u8, marks: Marks)
+fn put_avtp(out: &mut [u8], sequence: u8, avtp: AvtpFields)
     requires { ⌜ 22 ≤ length (now out) ⌝ }
-    ensures { λ _. ⌜ now (out .exit) ≡ sets (now (out .entry)) 18 (avtpBytes sequence marks) ⌝ }
+    ensures { λ _. ⌜ now (out .exit) ≡ sets (now (out .entry)) 18 (avtpBytes sequence avtp) ⌝ }
 {
     // cd 0 and subtype 0
     put(out, 18, 1, 0);
-    put(out, 19, 1, rows::valid(marks));
+    put(out, 19, 1, rows::valid(avtp));
     put(out, 20, 1, sequence as u64);
-    put(out, 21, 1, rows::uncertain(marks));
+    put(out, 21, 1, rows::uncertain(avtp));
 }
 
-fn put_stream(out: &mut [u8], origin: Origin, data_length: usize)
-    requires { ⌜ (42 ≤ length (now out)) × Fit packetRow (packetValues origin) ⌝ }
-    ensures { λ _. ⌜ now (out .exit) ≡ sets (now (out .entry)) 22 (streamBytes origin «data_length») ⌝ }
+fn put_stream(out: &mut [u8], stream: StreamFields, data_length: usize)
+    requires { ⌜ (42 ≤ length (now out)) × Fit packetRow (packetValues stream) ⌝ }
+    ensures { λ _. ⌜ now (out .exit) ≡ sets (now (out .entry)) 22 (streamBytes stream «data_length») ⌝ }
 {
-    put(out, 22, 8, origin.id);
-    put(out, 30, 4, origin.timestamp as u64);
-    put(out, 34, 4, origin.gateway_info as u64);
+    put(out, 22, 8, stream.id);
+    put(out, 30, 4, stream.timestamp as u64);
+    put(out, 34, 4, stream.gateway_info as u64);
     put(out, 38, 2, data_length as u64);
-    put(out, 40, 2, rows::packet(origin));
+    put(out, 40, 2, rows::packet(stream));
 }
 
-fn put_source(out: &mut [u8], format: Format, dbc: u8)
-    requires { ⌜ (46 ≤ length (now out)) × Fit sourceRow (sourceValues format) × Fit fractionRow (fractionValues format) ⌝ }
-    ensures { λ _. ⌜ now (out .exit) ≡ sets (now (out .entry)) 42 (sourceBytes format dbc) ⌝ }
+fn put_source(out: &mut [u8], cip: CipFields, dbc: u8)
+    requires { ⌜ (46 ≤ length (now out)) × Fit sourceRow (sourceValues cip) × Fit fractionRow (fractionValues cip) ⌝ }
+    ensures { λ _. ⌜ now (out .exit) ≡ sets (now (out .entry)) 42 (sourceBytes cip dbc) ⌝ }
 {
-    put(out, 42, 1, rows::source(format));
-    put(out, 43, 1, format.dbs as u64);
-    put(out, 44, 1, rows::fraction(format));
+    put(out, 42, 1, rows::source(cip));
+    put(out, 43, 1, cip.dbs as u64);
+    put(out, 44, 1, rows::fraction(cip));
     put(out, 45, 1, dbc as u64);
 }
 
-fn put_format(out: &mut [u8], format: Format)
-    requires { ⌜ (50 ≤ length (now out)) × Fit formatRow (formatValues format) ⌝ }
-    ensures { λ _. ⌜ now (out .exit) ≡ sets (now (out .entry)) 46 (formatBytes format) ⌝ }
+fn put_format(out: &mut [u8], cip: CipFields)
+    requires { ⌜ (50 ≤ length (now out)) × Fit formatRow (formatValues cip) ⌝ }
+    ensures { λ _. ⌜ now (out .exit) ≡ sets (now (out .entry)) 46 (formatBytes cip) ⌝ }
 {
-    put(out, 46, 1, rows::format(format));
-    put(out, 47, 1, format.fdf as u64);
-    put(out, 48, 2, format.low_half as u64);
+    put(out, 46, 1, rows::fmt(cip));
+    put(out, 47, 1, cip.fdf as u64);
+    put(out, 48, 2, cip.low_half as u64);
 }
 
 // Writes the frame at the front of `out`, and nothing behind it.
@@ -89,13 +89,13 @@ pub(crate) fn put_frame(sender: Sender, given: Given, payload: &[u8], out: &mut 
     requires { ⌜ fieldsFit given ≡ true ⌝ }
     requires { ⌜ length (now payload) ≤ 1468 ⌝ }
     requires { ⌜ 50 + length (now payload) ≤ length (now out) ⌝ }
-    ensures { λ _. ⌜ now (out .exit) ≡ frameOf sender given (now (payload .entry)) ++ drop (50 + length (now (payload .entry))) (now (out .entry)) ⌝ }
+    ensures { λ _. ⌜ now (out .exit) ≡ frameBytes sender given (now (payload .entry)) ++ drop (50 + length (now (payload .entry))) (now (out .entry)) ⌝ }
 {
-    put_ethernet(out, given.address);
-    put_avtp(out, sender.sequence, given.marks);
+    put_ethernet(out, given.ethernet);
+    put_avtp(out, sender.sequence, given.avtp);
     // stream_data_length counts the CIP header too
-    put_stream(out, given.origin, payload.len() + 8);
-    put_source(out, given.format, sender.dbc);
-    put_format(out, given.format);
+    put_stream(out, given.stream, payload.len() + 8);
+    put_source(out, given.cip, sender.dbc);
+    put_format(out, given.cip);
     bytes::copy(payload, &mut out[50..]);
 }

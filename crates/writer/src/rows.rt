@@ -1,8 +1,8 @@
 // The fields of a frame put together, row by row, by shifts and masks.
-use crate::given::Address;
-use crate::given::Format;
-use crate::given::Marks;
-use crate::given::Origin;
+use crate::given::AvtpFields;
+use crate::given::CipFields;
+use crate::given::EthernetFields;
+use crate::given::StreamFields;
 ghost use mathlib.Core.Path.{_≡_};
 ghost use Prim.Native.Nat.{_+_, _*_, _^_, _<_};
 ghost use Rattle.wire.specs.Bits.{bit, pack, Fit};
@@ -23,55 +23,55 @@ fn bit(b: bool) -> u64
     if b { 1 } else { 0 }
 }
 
-pub(crate) fn vlan(address: Address) -> u64
-    requires { ⌜ Fit vlanRow (vlanValues address) ⌝ }
-    ensures { λ r. ⌜ r ≡ pack vlanRow (vlanValues address) ⌝ }
+pub(crate) fn vlan(ethernet: EthernetFields) -> u64
+    requires { ⌜ Fit vlanRow (vlanValues ethernet) ⌝ }
+    ensures { λ r. ⌜ r ≡ pack vlanRow (vlanValues ethernet) ⌝ }
 {
-    join(join(address.pcp as u64, 1, 0), 12, address.vid as u64)
+    join(join(ethernet.pcp as u64, 1, 0), 12, ethernet.vid as u64)
 }
 
-pub(crate) fn valid(marks: Marks) -> u64
-    ensures { λ r. ⌜ r ≡ pack validRow (validValues marks) ⌝ }
+pub(crate) fn valid(avtp: AvtpFields) -> u64
+    ensures { λ r. ⌜ r ≡ pack validRow (validValues avtp) ⌝ }
 {
-    let clock = join(join(1, 3, 0), 1, bit(marks.mr));
-    join(join(join(clock, 1, 0), 1, bit(marks.gv)), 1, bit(marks.tv))
+    let clock = join(join(1, 3, 0), 1, bit(avtp.mr));
+    join(join(join(clock, 1, 0), 1, bit(avtp.gv)), 1, bit(avtp.tv))
 }
 
-pub(crate) fn uncertain(marks: Marks) -> u64
-    ensures { λ r. ⌜ r ≡ pack uncertainRow (uncertainValues marks) ⌝ }
+pub(crate) fn uncertain(avtp: AvtpFields) -> u64
+    ensures { λ r. ⌜ r ≡ pack uncertainRow (uncertainValues avtp) ⌝ }
 {
-    join(0, 1, bit(marks.tu))
+    join(0, 1, bit(avtp.tu))
 }
 
-pub(crate) fn packet(origin: Origin) -> u64
-    requires { ⌜ Fit packetRow (packetValues origin) ⌝ }
-    ensures { λ r. ⌜ r ≡ pack packetRow (packetValues origin) ⌝ }
+pub(crate) fn packet(stream: StreamFields) -> u64
+    requires { ⌜ Fit packetRow (packetValues stream) ⌝ }
+    ensures { λ r. ⌜ r ≡ pack packetRow (packetValues stream) ⌝ }
 {
     join(
-        join(join(1, 6, origin.channel as u64), 4, 10),
+        join(join(1, 6, stream.channel as u64), 4, 10),
         4,
-        origin.sy as u64,
+        stream.sy as u64,
     )
 }
 
-pub(crate) fn source(format: Format) -> u64
-    requires { ⌜ Fit sourceRow (sourceValues format) ⌝ }
-    ensures { λ r. ⌜ r ≡ pack sourceRow (sourceValues format) ⌝ }
+pub(crate) fn source(cip: CipFields) -> u64
+    requires { ⌜ Fit sourceRow (sourceValues cip) ⌝ }
+    ensures { λ r. ⌜ r ≡ pack sourceRow (sourceValues cip) ⌝ }
 {
-    join(0, 6, format.sid as u64)
+    join(0, 6, cip.sid as u64)
 }
 
-pub(crate) fn fraction(format: Format) -> u64
-    requires { ⌜ Fit fractionRow (fractionValues format) ⌝ }
-    ensures { λ r. ⌜ r ≡ pack fractionRow (fractionValues format) ⌝ }
+pub(crate) fn fraction(cip: CipFields) -> u64
+    requires { ⌜ Fit fractionRow (fractionValues cip) ⌝ }
+    ensures { λ r. ⌜ r ≡ pack fractionRow (fractionValues cip) ⌝ }
 {
-    let number = join(format.fraction_number as u64, 3, format.qpc as u64);
-    join(join(number, 1, bit(format.sph)), 2, 0)
+    let number = join(cip.fraction_number as u64, 3, cip.qpc as u64);
+    join(join(number, 1, bit(cip.sph)), 2, 0)
 }
 
-pub(crate) fn format(format: Format) -> u64
-    requires { ⌜ Fit formatRow (formatValues format) ⌝ }
-    ensures { λ r. ⌜ r ≡ pack formatRow (formatValues format) ⌝ }
+pub(crate) fn fmt(cip: CipFields) -> u64
+    requires { ⌜ Fit formatRow (formatValues cip) ⌝ }
+    ensures { λ r. ⌜ r ≡ pack formatRow (formatValues cip) ⌝ }
 {
-    join(2, 6, format.fmt as u64)
+    join(2, 6, cip.fmt as u64)
 }

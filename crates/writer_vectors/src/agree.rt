@@ -5,13 +5,13 @@ use frame::layout::Ethernet;
 use frame::layout::Fields;
 use frame::layout::Stream;
 use writer::Sender;
-use writer::given::Address;
-use writer::given::Format;
+use writer::given::AvtpFields;
+use writer::given::CipFields;
+use writer::given::EthernetFields;
 use writer::given::Given;
-use writer::given::Marks;
-use writer::given::Origin;
+use writer::given::StreamFields;
 
-fn ethernet(e: Ethernet, a: Address) -> bool {
+fn ethernet(e: Ethernet, a: EthernetFields) -> bool {
     (e.destination == a.destination)
         & (e.source == a.source)
         & (e.tpid == 0x8100)
@@ -21,7 +21,7 @@ fn ethernet(e: Ethernet, a: Address) -> bool {
         & (e.ethertype == 0x22f0)
 }
 
-fn avtp(a: Avtp, sequence: u8, m: Marks) -> bool {
+fn avtp(a: Avtp, sequence: u8, m: AvtpFields) -> bool {
     !a.cd
         & (a.subtype == 0)
         & a.sv
@@ -33,7 +33,7 @@ fn avtp(a: Avtp, sequence: u8, m: Marks) -> bool {
         & (a.tu == m.tu)
 }
 
-fn stream(s: Stream, o: Origin, n: usize) -> bool {
+fn stream(s: Stream, o: StreamFields, n: usize) -> bool {
     (s.id == o.id)
         & (s.timestamp == o.timestamp)
         & (s.gateway_info == o.gateway_info)
@@ -43,7 +43,7 @@ fn stream(s: Stream, o: Origin, n: usize) -> bool {
         & (s.sy == o.sy)
 }
 
-fn cip(c: Cip, f: Format, dbc: u8) -> bool {
+fn cip(c: Cip, f: CipFields, dbc: u8) -> bool {
     (c.sid == f.sid)
         & (c.dbs == f.dbs)
         & (c.fraction_number == f.fraction_number)
@@ -57,8 +57,8 @@ fn cip(c: Cip, f: Format, dbc: u8) -> bool {
 
 // `data_length` is what stream_data_length has to be.
 pub(crate) fn fields(read: Fields, sender: Sender, given: Given, data_length: usize) -> bool {
-    ethernet(read.header.ethernet, given.address)
-        & avtp(read.header.avtp, sender.sequence, given.marks)
-        & stream(read.header.stream, given.origin, data_length)
-        & cip(read.cip, given.format, sender.dbc)
+    ethernet(read.header.ethernet, given.ethernet)
+        & avtp(read.header.avtp, sender.sequence, given.avtp)
+        & stream(read.header.stream, given.stream, data_length)
+        & cip(read.cip, given.cip, sender.dbc)
 }

@@ -4,35 +4,35 @@ mod show;
 
 use show::show;
 use writer::Sender;
-use writer::given::Address;
-use writer::given::Format;
+use writer::given::AvtpFields;
+use writer::given::CipFields;
+use writer::given::EthernetFields;
 use writer::given::Given;
-use writer::given::Marks;
-use writer::given::Origin;
+use writer::given::StreamFields;
 
 // Every field 0, but for the bit that makes the destination a group address, and DBS 1.
 fn lowest() -> Given {
     Given {
-        address: Address {
+        ethernet: EthernetFields {
             destination: 0x0100_0000_0000,
             source: 0,
             pcp: 0,
             vid: 0,
         },
-        marks: Marks {
+        avtp: AvtpFields {
             mr: false,
             gv: false,
             tv: false,
             tu: false,
         },
-        origin: Origin {
+        stream: StreamFields {
             id: 0,
             timestamp: 0,
             gateway_info: 0,
             channel: 0,
             sy: 0,
         },
-        format: Format {
+        cip: CipFields {
             sid: 0,
             dbs: 1,
             fraction_number: 0,
@@ -48,26 +48,26 @@ fn lowest() -> Given {
 // Every field at its largest value, but for the bit that would make the source a group address.
 fn largest() -> Given {
     Given {
-        address: Address {
+        ethernet: EthernetFields {
             destination: 0xffff_ffff_ffff,
             source: 0xfeff_ffff_ffff,
             pcp: 7,
             vid: 4095,
         },
-        marks: Marks {
+        avtp: AvtpFields {
             mr: true,
             gv: true,
             tv: true,
             tu: true,
         },
-        origin: Origin {
+        stream: StreamFields {
             id: 0xffff_ffff_ffff_ffff,
             timestamp: 0xffff_ffff,
             gateway_info: 0xffff_ffff,
             channel: 63,
             sy: 15,
         },
-        format: Format {
+        cip: CipFields {
             sid: 63,
             dbs: 255,
             fraction_number: 3,
@@ -95,76 +95,76 @@ fn edge(name: &[u8], given: Given) {
 // Each field of `lowest` at its largest value.
 fn address_edges() {
     let mut destination = lowest();
-    destination.address.destination = 0xffff_ffff_ffff;
+    destination.ethernet.destination = 0xffff_ffff_ffff;
     edge(b"destination largest", destination);
     let mut source = lowest();
-    source.address.source = 0xfeff_ffff_ffff;
+    source.ethernet.source = 0xfeff_ffff_ffff;
     edge(b"source largest", source);
     let mut pcp = lowest();
-    pcp.address.pcp = 7;
+    pcp.ethernet.pcp = 7;
     edge(b"pcp 7", pcp);
     let mut vid = lowest();
-    vid.address.vid = 4095;
+    vid.ethernet.vid = 4095;
     edge(b"vid 4095", vid);
 }
 
 // The same of the four flags.
 fn mark_edges() {
     let mut mr = lowest();
-    mr.marks.mr = true;
+    mr.avtp.mr = true;
     edge(b"mr", mr);
     let mut gv = lowest();
-    gv.marks.gv = true;
+    gv.avtp.gv = true;
     edge(b"gv", gv);
     let mut tv = lowest();
-    tv.marks.tv = true;
+    tv.avtp.tv = true;
     edge(b"tv", tv);
     let mut tu = lowest();
-    tu.marks.tu = true;
+    tu.avtp.tu = true;
     edge(b"tu", tu);
 }
 
 // The same of the stream and the packet header.
 fn origin_edges() {
     let mut id = lowest();
-    id.origin.id = 0xffff_ffff_ffff_ffff;
+    id.stream.id = 0xffff_ffff_ffff_ffff;
     edge(b"stream id largest", id);
     let mut timestamp = lowest();
-    timestamp.origin.timestamp = 0xffff_ffff;
+    timestamp.stream.timestamp = 0xffff_ffff;
     edge(b"timestamp largest", timestamp);
     let mut gateway = lowest();
-    gateway.origin.gateway_info = 0xffff_ffff;
+    gateway.stream.gateway_info = 0xffff_ffff;
     edge(b"gateway info largest", gateway);
     let mut channel = lowest();
-    channel.origin.channel = 63;
+    channel.stream.channel = 63;
     edge(b"channel 63", channel);
     let mut sy = lowest();
-    sy.origin.sy = 15;
+    sy.stream.sy = 15;
     edge(b"sy 15", sy);
 }
 
 // The same of the CIP header; DBS is with the payloads.
 fn format_edges() {
     let mut sid = lowest();
-    sid.format.sid = 63;
+    sid.cip.sid = 63;
     edge(b"sid 63", sid);
     let mut fraction = lowest();
-    fraction.format.fraction_number = 3;
+    fraction.cip.fraction_number = 3;
     edge(b"fn 3", fraction);
     let mut qpc = lowest();
-    qpc.format.qpc = 7;
+    qpc.cip.qpc = 7;
     edge(b"qpc 7", qpc);
     let mut sph = lowest();
-    sph.format.sph = true;
+    sph.cip.sph = true;
     edge(b"sph", sph);
     let mut fmt = lowest();
-    fmt.format.fmt = 63;
+    fmt.cip.fmt = 63;
     edge(b"fmt 63", fmt);
     let mut fdf = lowest();
-    fdf.format.fdf = 255;
+    fdf.cip.fdf = 255;
     edge(b"fdf 255", fdf);
     let mut low = lowest();
-    low.format.low_half = 65535;
+    low.cip.low_half = 65535;
     edge(b"low half 65535", low);
 }
 
@@ -174,59 +174,59 @@ fn payload_edges() {
     show(b"no payload", start(), one, 0, 50);
     show(b"payload 1468", start(), one, 1468, 1518);
     let mut most = lowest();
-    most.format.dbs = 0;
+    most.cip.dbs = 0;
     show(b"dbs 0, no payload", start(), most, 0, 1600);
     show(b"dbs 0, payload 1024", start(), most, 1024, 1600);
     let mut many = lowest();
-    many.format.dbs = 255;
+    many.cip.dbs = 255;
     show(b"dbs 255, payload 1020", start(), many, 1020, 1600);
 }
 
 // 31: a destination that is no group address, a source that is one.
 fn wrong_addresses() {
     let mut to = lowest();
-    to.address.destination = 0xfeff_ffff_ffff;
+    to.ethernet.destination = 0xfeff_ffff_ffff;
     edge(b"destination no group", to);
     let mut from = lowest();
-    from.address.source = 0x0100_0000_0000;
+    from.ethernet.source = 0x0100_0000_0000;
     edge(b"source a group", from);
 }
 
 // 32: each field one above its largest value.
 fn wide_fields() {
     let mut destination = lowest();
-    destination.address.destination = 0x1_0100_0000_0000;
+    destination.ethernet.destination = 0x1_0100_0000_0000;
     edge(b"destination of 49 bits", destination);
     let mut source = lowest();
-    source.address.source = 0x1_0000_0000_0000;
+    source.ethernet.source = 0x1_0000_0000_0000;
     edge(b"source of 49 bits", source);
     let mut pcp = lowest();
-    pcp.address.pcp = 8;
+    pcp.ethernet.pcp = 8;
     edge(b"pcp 8", pcp);
     let mut vid = lowest();
-    vid.address.vid = 4096;
+    vid.ethernet.vid = 4096;
     edge(b"vid 4096", vid);
     let mut channel = lowest();
-    channel.origin.channel = 64;
+    channel.stream.channel = 64;
     edge(b"channel 64", channel);
     let mut sy = lowest();
-    sy.origin.sy = 16;
+    sy.stream.sy = 16;
     edge(b"sy 16", sy);
 }
 
 // 32 too.
 fn wide_formats() {
     let mut sid = lowest();
-    sid.format.sid = 64;
+    sid.cip.sid = 64;
     edge(b"sid 64", sid);
     let mut fraction = lowest();
-    fraction.format.fraction_number = 4;
+    fraction.cip.fraction_number = 4;
     edge(b"fn 4", fraction);
     let mut qpc = lowest();
-    qpc.format.qpc = 8;
+    qpc.cip.qpc = 8;
     edge(b"qpc 8", qpc);
     let mut fmt = lowest();
-    fmt.format.fmt = 64;
+    fmt.cip.fmt = 64;
     edge(b"fmt 64", fmt);
 }
 
@@ -236,7 +236,7 @@ fn lengths() {
     show(b"payload 3", start(), one, 3, 1600);
     show(b"payload 5", start(), one, 5, 1600);
     let mut most = lowest();
-    most.format.dbs = 0;
+    most.cip.dbs = 0;
     show(b"dbs 0, payload 1020", start(), most, 1020, 1600);
     show(b"dbs 0, payload 1028", start(), most, 1028, 1600);
     show(b"payload 1472", start(), one, 1472, 1600);
@@ -248,10 +248,10 @@ fn lengths() {
 // Where two numbers apply, the lower one answers.
 fn two_apply() {
     let mut address = lowest();
-    address.address.destination = 0x1_0000_0000_0000;
+    address.ethernet.destination = 0x1_0000_0000_0000;
     edge(b"31 and 32", address);
     let mut field = lowest();
-    field.format.fmt = 64;
+    field.cip.fmt = 64;
     show(b"32 and 33", start(), field, 3, 1600);
     let one = lowest();
     show(b"33 and 34", start(), one, 1469, 1600);

@@ -4,7 +4,7 @@ use Rattle.frame.specs.Layout.{ethernetOf, avtpOf, streamOf, cipOf, headerOf, f
 use Rattle.frame.specs.Checks.{misaddressed, blockBytes, lengthChecks, ethernetChecks, avtpChecks, addressChecks, streamChecks, blockChecks, headerChecks, readChecks, frameChecks, refusal}
 use Rattle.frame.specs.Reading.{payloadOf, blocksOf}
 use Rattle.presentation.specs.Offset.{offset}
-use Rattle.presentation.specs.Presentation.{timed, timing, presentation}
+use Rattle.presentation.specs.Presentation.{timed, timing, stampOf, presentation}
 use Rattle.stream.specs.Records.{unused, admitted, formatOf, formatChange, flagsOf, bump, countsAfter, recordAfter}
 use Rattle.stream.specs.Step.{stepped}
 use Rattle.stream.specs.Answers.{refusedWith, stepOf as frameStep, answerOf, after, idOf}
@@ -18,7 +18,7 @@ use Rattle.listing.proofs.worked_example.Statement.{statement}
 use Rattle.listing.proofs.worked_example.Tie as tie
 
 returns : tie.Need-returns
-unfolding firstOf ethernetOf avtpOf streamOf cipOf headerOf fieldsOf misaddressed blockBytes lengthChecks ethernetChecks avtpChecks addressChecks streamChecks blockChecks headerChecks readChecks frameChecks refusal payloadOf blocksOf offset timed timing presentation unused admitted formatOf formatChange flagsOf bump countsAfter recordAfter stepped refusedWith frameStep answerOf after idOf any place admit remove numberWith receive lengthOf kindOf frameOf wrongLength unknownKind entryOf digits decimal endLine flagsText timingText lineText stepOf listedFrom listing exampleCapture exampleListing
+unfolding firstOf ethernetOf avtpOf streamOf cipOf headerOf fieldsOf misaddressed blockBytes lengthChecks ethernetChecks avtpChecks addressChecks streamChecks blockChecks headerChecks readChecks frameChecks refusal payloadOf blocksOf offset timed timing stampOf presentation unused admitted formatOf formatChange flagsOf bump countsAfter recordAfter stepped refusedWith frameStep answerOf after idOf any place admit remove numberWith receive lengthOf kindOf frameOf wrongLength unknownKind entryOf digits decimal endLine flagsText timingText lineText stepOf listedFrom listing exampleCapture exampleListing
 returns c = record { whole = refl; empty = refl; cut = refl }
 
 pub worked-example-spec : {M : Type 1} → statement M

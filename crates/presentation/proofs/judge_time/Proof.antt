@@ -35,7 +35,7 @@ returns-2 c = c .untimed2 .ensures ∙ ap (timingOf _) (sym (c .before .enum-tol
 
 returns-3 : tie.Need-returns-3
 unfolding presentation
-returns-3 c = c .reckon .ensures .0 ∙ ap (timingOf _) (sym (c .before .before .stamp .given .1) ∙ c .before .before .before .before .stamp-of .ensures)
+returns-3 c = c .reckon .ensures ∙ ap (timingOf _) (sym (c .before .before .stamp .given .1) ∙ c .before .before .before .before .stamp-of .ensures)
 
 pub judge-time-spec : {M : Type 1} → statement M
 judge-time-spec =

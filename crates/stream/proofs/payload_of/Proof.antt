@@ -1,20 +1,21 @@
 use mathlib.Core.Path.{_≡_, refl, sym, ap, _∙_}
 use mathlib.Core.List.{List, []}
 use Prim.Native.Nat.{ℕ}
+use native.Mathlib.Omega.{arith}
 use denote.Ref.{now}
 use borrow.Author.Needs.{needs}
 use Rattle.refusal.specs.declared.Refusal.{Refusal}
 use Rattle.refusal.specs.Refusals.{numberOf}
-use Rattle.stream.specs.Answers.{told, refusedWith}
+use Rattle.stream.specs.Answers.{receiptAnswer, refusedWith}
 use Rattle.stream.proofs.payload_of.Statement.{statement}
 use Rattle.stream.proofs.payload_of.Tie as tie
 
 returns : tie.Need-returns
-returns c = c .«data» .ensures .0 ∙ rw (c .before .before .receipt .given .1) refl
+returns c = (c .«data» .ensures .0 ∙ rw (c .before .before .receipt .given .1) refl, c .«data» .ensures .1)
 
 returns-2 : tie.Need-returns-2
 unfolding refusedWith
-returns-2 c = rw (c .before .enum-told .given .1) (empty (c .before .enum-told .given .0 .0))
+returns-2 c = (rw (c .before .enum-told .given .1) (empty (c .before .enum-told .given .0 .0)), (refl, λ h. absurd (omega arith)))
   where
     empty : (r : Refusal) → _≡_ {A = List ℕ} [] (refusedWith (numberOf r) .payload)
     empty r = refl

@@ -48,7 +48,7 @@ use Rattle.stream.proofs.admitted.Met as admitted-thm
 use Rattle.table.specs.declared.Found.{Found}
 use Rattle.table.specs.declared.Target.{Target}
 use Rattle.table.specs.declared.Wanted.the-variants.{Holding, Unused}
-use Rattle.table.specs.Private.{find, placeToAdmit, changeOf}
+use Rattle.table.specs.Private.{find, placeToAdmit, changeOf, changedAt}
 use Rattle.table.proofs.Found as F
 use Rattle.table.proofs.Found.Laws as F′
 use Rattle.table.proofs.Wanted as Q
@@ -61,7 +61,7 @@ use Rattle.table.proofs.Machine.{machR, machF, machQ, machX, machY}
 use Rattle.walks.proofs.Calls.{calls-is}
 use Rattle.walks.proofs.Lending.{Mine, calls-sharing, calls-lending}
 use Rattle.walks.proofs.Locals.{Slots, freed}
-use Rattle.table.proofs.Changing.{changedAt, changed-length, admits}
+use Rattle.table.proofs.Changing.{changed-length, admits}
 use Rattle.table.proofs.Callees.{Find, to-find, goes-find, find-is, PlaceToAdmit, to-place-to-admit, goes-place-to-admit, place-to-admit-is, Admitted, to-admitted, goes-admitted, admitted-is, Store, to-store, goes-store, store-is}
 use Rattle.table.proofs.find.Symbol as find-def
 use Rattle.table.proofs.find.Symbol.{name as #table·find}
@@ -128,7 +128,7 @@ module _ {M : Type 1} (𝓤 : URA M) (H : Heap 𝓤) (A : Atoms 𝓤) (W : Given
   exits ok =
       qed W (Own zs ∷ Tok ∷ []) ∵
       suffices ! _ (ends-at 𝓤 H A this.ended stayed (this.clauses 𝓤 H A mem run) W (((κ, tt), (q, tt), tt, a, vals), tt) (machY (changeOf t)) (changeOf t) (zs, (tt, tt)) (changed-length t ys r, (tt, tt))) $
-      says ! (admits ys id .0, admits ys id .1 .0) $ nothing ! $ move ! (2 ∷ 0 ∷ []) $ join ! $ frame ! $
+      says ! (admits ys id .0) $ nothing ! $ move ! (2 ∷ 0 ∷ []) $ join ! $ frame ! $
       nothing ! $ owned ! u64 (Is u64) (uint-makes 𝓤 H A W w64) id _ (refl, fits) $ fjoin ! $ move ! (1 ∷ 0 ∷ []) $ fjoin ! $ frame ! $
       owned ! Y.the-row (Is Y.the-row) (EL.makes Y.the-type Y′.the-plain 𝓤 H A) (changeOf t) _ ok $ done !
 
@@ -157,7 +157,7 @@ module _ {M : Type 1} (𝓤 : URA M) (H : Heap 𝓤) (A : Atoms 𝓤) (W : Given
           (goes-admitted 𝓤 H A mem run id W fits) (admitted-is 𝓤 H A mem run id W) (and-then ! (load ! (from ! (stop !)) (look ! 27 refl)) (no-more !)) (λ ok-r. drop ! $
           land ! (from ! (stop !)) (init ! 2 refl (LL.lawful T.the-type T′.the-laws 𝓤 H A W .typed r _ ok-r .0)) $
           calls-lending ! fm (Store 𝓤 H A mem run) known-store T.the-row (named 0) κ q γ b o ys room (λ ν δ. to-store 𝓤 H A mem run (ν ∷ []) fullShare b o δ ys t r) Y.the-row (changeOf t) (machY (changeOf t)) (λ v. EL.tells Y.the-type Y′.the-laws (changeOf t) (v ∷ [])) zs (changed-length t ys r)
-          (λ ν δ. goes-store 𝓤 H A mem run (ν ∷ []) fullShare b o δ ys t r W ok-t ok-r (admits ys id .1 .1)) (λ ν δ. store-is 𝓤 H A mem run (ν ∷ []) fullShare b o δ ys t r W)
+          (λ ν δ. goes-store 𝓤 H A mem run (ν ∷ []) fullShare b o δ ys t r W ok-t ok-r (admits ys id .1)) (λ ν δ. store-is 𝓤 H A mem run (ν ∷ []) fullShare b o δ ys t r W)
           (λ ν δ. and-then ! (load ! (from ! (stop !)) (look ! 4 refl)) (and-then ! (load ! (from ! (stop !)) (look ! 20 refl)) (and-then ! (load ! (from ! (stop !)) (look ! 2 refl)) (no-more !)))) (λ ok.
           land ! (from ! (stop !)) (init ! 30 refl (EL.lawful Y.the-type Y′.the-laws 𝓤 H A W tt .typed (changeOf t) _ ok .0)) $
           returns ! (look ! 30 refl) $ join ! $

@@ -71,7 +71,7 @@ use Rattle.table.specs.declared.Found.{Found}
 use Rattle.table.specs.declared.Found.the-variants.{At, Nothing}
 use Rattle.table.specs.declared.Wanted.{Wanted}
 use Rattle.table.specs.declared.Wanted.the-variants.{Holding}
-use Rattle.table.specs.Table.{at}
+use Rattle.table.specs.Table.{at, Receives}
 use Rattle.table.specs.Private.{find}
 use Rattle.table.proofs.Found as F
 use Rattle.table.proofs.Found.Laws as F′
@@ -83,7 +83,7 @@ use Rattle.walks.proofs.Lending.{Mine, calls-sharing, calls-lending}
 use Rattle.walks.proofs.Locals.{Slots, freed}
 use Rattle.walks.proofs.Pieces.{first-of, rest-of, arm-of}
 use Rattle.table.proofs.Searched.{found-within}
-use Rattle.table.proofs.Receiving.{Receives, receives-refused, receives-unadmitted, receives-served}
+use Rattle.table.proofs.Receiving.{receives-refused, receives-unadmitted, receives-served}
 use Rattle.table.proofs.Callees.{Get, to-get, goes-get, get-is, Find, to-find, goes-find, find-is, Put, to-put, goes-put, put-is, Frame, FrameAlive, ReadFor, ReadForSaid, to-read-for, goes-read-for, read-for-is, Serve, to-serve, goes-serve, serve-is}
 use Rattle.table.proofs.get.Symbol as get-def
 use Rattle.table.proofs.get.Symbol.{name as #table·get}

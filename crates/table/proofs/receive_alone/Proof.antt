@@ -1,8 +1,8 @@
 use mathlib.Core.Path.{sym, ap, subst, _∙_}
 use denote.Ref.{now}
 use borrow.Author.Needs.{needs}
-use Rattle.frame.specs.Reading.{told as readAs}
-use Rattle.table.proofs.Receiving.{ReceivesAlone, alone-refused, alone-unadmitted, alone-served}
+use Rattle.frame.specs.Reading.{readAnswer}
+use Rattle.table.proofs.Receiving.{ServesAlone, alone-refused, alone-unadmitted, alone-served}
 use Rattle.table.proofs.receive_alone.Statement.{statement}
 use Rattle.table.proofs.receive_alone.Tie as tie
 
@@ -10,24 +10,24 @@ returns : tie.Need-returns
 returns c =
     let read = c .before .before .before .before in
     let a = read .before .before .args in
-    subst (ReceivesAlone (a .last) (now (a .frame)) (a .arrival-time)) (sym (c .refused .ensures))
-    (alone-refused (a .last) (now (a .frame)) (a .arrival-time) (c .before .before .refusal .given .0 .0) (ap readAs (sym (c .before .before .refusal .given .1)) ∙ read .read-for .ensures))
+    subst (ServesAlone (a .last) (now (a .frame)) (a .arrival-time)) (sym (c .refused .ensures))
+    (alone-refused (a .last) (now (a .frame)) (a .arrival-time) (c .before .before .refusal .given .0 .0) (ap readAnswer (sym (c .before .before .refusal .given .1)) ∙ read .read-for .ensures))
 
 returns-2 : tie.Need-returns-2
 returns-2 c =
     let wanted = c .before .before in
     let read = wanted .before .before .before .before in
     let a = read .before .before .args in
-    subst (ReceivesAlone (a .last) (now (a .frame)) (a .arrival-time)) (sym (c .serve .ensures))
-    (alone-served (a .last) (now (a .frame)) (a .arrival-time) _ (ap readAs (sym (wanted .before .before .fields .given .1)) ∙ read .read-for .ensures) (sym (wanted .is-wanted .ensures) ∙ c .before .if1 .taken))
+    subst (ServesAlone (a .last) (now (a .frame)) (a .arrival-time)) (sym (c .serve .ensures))
+    (alone-served (a .last) (now (a .frame)) (a .arrival-time) _ (ap readAnswer (sym (wanted .before .before .fields .given .1)) ∙ read .read-for .ensures) (sym (wanted .is-wanted .ensures) ∙ c .before .if1 .taken))
 
 returns-3 : tie.Need-returns-3
 returns-3 c =
     let wanted = c .before .before in
     let read = wanted .before .before .before .before in
     let a = read .before .before .args in
-    subst (ReceivesAlone (a .last) (now (a .frame)) (a .arrival-time)) (sym (c .refused2 .ensures))
-    (alone-unadmitted (a .last) (now (a .frame)) (a .arrival-time) _ (ap readAs (sym (wanted .before .before .fields .given .1)) ∙ read .read-for .ensures) (sym (wanted .is-wanted .ensures) ∙ c .before .if1 .left))
+    subst (ServesAlone (a .last) (now (a .frame)) (a .arrival-time)) (sym (c .refused2 .ensures))
+    (alone-unadmitted (a .last) (now (a .frame)) (a .arrival-time) _ (ap readAnswer (sym (wanted .before .before .fields .given .1)) ∙ read .read-for .ensures) (sym (wanted .is-wanted .ensures) ∙ c .before .if1 .left))
 
 pub receive-alone-spec : {M : Type 1} → statement M
 receive-alone-spec =

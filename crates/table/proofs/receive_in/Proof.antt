@@ -42,7 +42,7 @@ use denote.Triple.Walked.{says, Stays, stay-none, stay-none-slice, walkOf, goes-
 use denote.Exit.{yes}
 use Rattle.stream.specs.declared.Record.{Record}
 use Rattle.stream.specs.declared.Receipt.{Receipt}
-use Rattle.stream.specs.Answers.{told}
+use Rattle.stream.specs.Answers.{receiptAnswer}
 use Rattle.stream.proofs.Record as T
 use Rattle.stream.proofs.Record.Laws as T′
 use Rattle.stream.proofs.Receipt as P
@@ -99,12 +99,12 @@ module _ {M : Type 1} (𝓤 : URA M) (H : Heap 𝓤) (A : Atoms 𝓤) (W : Given
 
   -- what the receipt says
   abbrev Said : Receipt → Type 0
-  Said r = told r (y .now) ≡ receive ys (y .now) L .0
+  Said r = receiptAnswer r (y .now) ≡ receive ys (y .now) L .0
 
   exits : (r : Receipt) → Said r → Is Whole zs (machA zs ∷ []) → Is P.the-row r (machP r ∷ []) → ent 𝓤 (mean 𝓤 H A (Fr ⊛ FrTok)) (Post (beside zs (machP r)))
   exits r said ok ok-r =
       qed W (Fr ∷ FrTok ∷ []) ∵ move ! (1 ∷ 0 ∷ []) $
-      suffices ! _ (ends-at 𝓤 H A this.ended stayed (this.clauses 𝓤 H A mem run) W (((κ₁, tt), (q₁, tt), tt, a, vals), tt) (beside zs (machP r)) (record { table = zs; receipt = r }) (tt, (tt, (tt, tt))) (tt, (tt, (tt, tt)))) $ says ! (said, refl) $ frame ! $
+      suffices ! _ (ends-at 𝓤 H A this.ended stayed (this.clauses 𝓤 H A mem run) W (((κ₁, tt), (q₁, tt), tt, a, vals), tt) (beside zs (machP r)) (record { table = zs; receipt = r }) (tt, (tt, (tt, tt))) (tt, (tt, (tt, tt)))) $ says ! (record { answer = said; table = refl }) $ frame ! $
       nothing ! $ owned ! u64 (Is u64) (uint-makes 𝓤 H A W w64) L _ (refl, fits) $ fjoin ! $ move ! (1 ∷ 0 ∷ []) $ fjoin ! $
       owned ! Whole (Is Whole) (array-makes 𝓤 H A W T.the-row (LL.makes T.the-type T′.the-plain 𝓤 H A) 64) ys _ was $ fjoin ! $ frame ! $
       owned ! B.the-row (Is B.the-row) (LL.makes B.the-type B′.the-plain 𝓤 H A) (record { table = zs; receipt = r }) _ (is-received zs r ok ok-r) $ done !

@@ -49,7 +49,7 @@ use Rattle.table.proofs.Served as S
 use Rattle.table.proofs.Served.Laws as S′
 use Rattle.stream.proofs.Receipt as P
 use Rattle.stream.proofs.Receipt.Laws as P′
-use Rattle.table.proofs.Receiving.{ReceivesAlone}
+use Rattle.table.proofs.Receiving.{ServesAlone}
 use Rattle.table.proofs.Machine.{machR, machS, machP, after-field, after-part, receipt-field, receipt-part, of-after, of-receipt}
 use Rattle.walks.proofs.Calls.{calls-some}
 use Rattle.walks.proofs.Locals.{Slots, freed}
@@ -96,7 +96,7 @@ module _ {M : Type 1} (𝓤 : URA M) (H : Heap 𝓤) (A : Atoms 𝓤) (W : Given
   abbrev Kept : Record → Item 𝓤
   Kept h′ = (((‵ (fobs γ (T.the-row .coded .code h′)) ⊛ ‵ (fbor κ (Body (mem T.the-row) b o γ))) ⊛ ‵ (flft κ q)) ⊛ FrTok) ⊛ Fr
 
-  exits : (s : Served) → ReceivesAlone h (y .now) L s → Is P.the-row (s .receipt) (machP (s .receipt) ∷ []) → ent 𝓤 (mean 𝓤 H A (Kept (s .after))) (Post (machP (s .receipt)))
+  exits : (s : Served) → ServesAlone h (y .now) L s → Is P.the-row (s .receipt) (machP (s .receipt) ∷ []) → ent 𝓤 (mean 𝓤 H A (Kept (s .after))) (Post (machP (s .receipt)))
   exits s said ok =
       qed W (Kept (s .after) ∷ []) ∵
       suffices ! _ (ends-at 𝓤 H A this.ended stayed (this.clauses 𝓤 H A at-mem run) W (((κ, (κ₁, tt)), (q, (q₁, tt)), bounds, a, vals), tt) (machP (s .receipt)) (s .receipt) (s .after, (tt, (tt, tt))) (tt, (tt, (tt, tt)))) $
@@ -117,7 +117,7 @@ module _ {M : Type 1} (𝓤 : URA M) (H : Heap 𝓤) (A : Atoms 𝓤) (W : Given
       Open v Γ = ‵ (cellAt fullShare (T.the-row .mir) (v ∷ []) b o) ∷ ‵ (fobor κ q (Body (mem T.the-row) b o γ)) ∷ ‵ (fobs γ (T.the-row .coded .code h)) ∷ ‵ (fauth γ (T.the-row .coded .code h)) ∷ Γ
 
       -- what `receive_alone` returned is stored: [the frame's token; what the frame owns; the record's cell; the open borrow; obs; auth; _5: 6; _4: 8; _3: 10; _2: 12; _1: 14; _0: 16]
-      stored : (s : Served) → ReceivesAlone h (y .now) L s → Is S.the-row s (machS s ∷ []) → Is T.the-row (s .after) (machR (s .after) ∷ []) → Is P.the-row (s .receipt) (machP (s .receipt) ∷ [])
+      stored : (s : Served) → ServesAlone h (y .now) L s → Is S.the-row s (machS s ∷ []) → Is T.the-row (s .after) (machR (s .after) ∷ []) → Is P.the-row (s .receipt) (machP (s .receipt) ∷ [])
           → Sq W (FrTok ∷ Fr ∷ Open (machR h) (Slots 𝓤 E (none ∷ is (vptr b o) ∷ is sy ∷ is (vint w64 L) ∷ is (machS s) ∷ is (machR h) ∷ []) [])) (runs C Λ E mir.t-3 (atRet E Post))
       stored s said ok ok₁ ok₂ =
           assigns ! (of-opd ! (load ! (from ! (fld ! after-field (stop !))) (look-in ! 8 (after-part ! l₄ s)))) (from ! (hop ! (look ! 14 refl) (stop !))) (store-raw ! 2 refl (LL.lawful T.the-type T′.the-laws 𝓤 H A W .typed (s .after) _ ok₁ .0)) $
@@ -135,7 +135,7 @@ module _ {M : Type 1} (𝓤 : URA M) (H : Heap 𝓤) (A : Atoms 𝓤) (W : Given
           assigns ! (of-opd ! (load ! (from ! (hop ! (look ! 14 refl) (stop !))) (look-raw ! 0 refl))) (from ! (stop !)) (init ! 6 refl (LL.lawful T.the-type T′.the-laws 𝓤 H A W .typed h _ ok .0)) $
           move ! (4 ∷ []) $ use1 W (Fr ⊛ Fr) (shr-slice-copy 𝓤 H A W (named 1) κ₁ u8 .twice y (sy ∷ [])) $ split ! $ move ! (6 ∷ 0 ∷ []) $ join ! $
           -- [what goes to the callee; what the frame owns; the record's cell; the open borrow; obs; auth; _5: 6; …; _0: 16]
-          calls-some ! fm (ReceiveAlone 𝓤 H A at-mem run) known (to-receive-alone 𝓤 H A at-mem run κ₁ q₁ y h L) (FrTok ⊛ Fr) FrTok S.the-row (ReceivesAlone h (y .now) L) machS (λ s v. LL.tells S.the-type S′.the-laws s (v ∷ []))
+          calls-some ! fm (ReceiveAlone 𝓤 H A at-mem run) known (to-receive-alone 𝓤 H A at-mem run κ₁ q₁ y h L) (FrTok ⊛ Fr) FrTok S.the-row (ServesAlone h (y .now) L) machS (λ s v. LL.tells S.the-type S′.the-laws s (v ∷ []))
           (goes-receive-alone 𝓤 H A at-mem run κ₁ q₁ y h L W ok fits) (receive-alone-is 𝓤 H A at-mem run κ₁ q₁ y h L W)
           (and-then ! (load ! (from ! (stop !)) (look ! 6 refl)) (and-then ! (load ! (from ! (stop !)) (look ! 12 refl)) (and-then ! (load ! (from ! (stop !)) (look ! 10 refl)) (no-more !)))) (λ s said ok′.
           land ! (from ! (stop !)) (init ! 8 refl (LL.lawful S.the-type S′.the-laws 𝓤 H A W .typed s _ ok′ .0)) $

@@ -49,7 +49,7 @@ use Rattle.stream.proofs.Record.Laws as T′
 use Rattle.table.specs.declared.Target.{Target}
 use Rattle.table.specs.declared.Target.the-variants.{Place, Refuse}
 use Rattle.table.specs.declared.Change.the-variants.{Made, Refused}
-use Rattle.table.specs.Private.{changeOf}
+use Rattle.table.specs.Private.{changeOf, changedAt}
 use Rattle.table.proofs.Target as X
 use Rattle.table.proofs.Target.Laws as X′
 use Rattle.table.proofs.Change as Y
@@ -58,7 +58,7 @@ use Rattle.table.proofs.Machine.{machR, machN, machX, machY}
 use Rattle.walks.proofs.Lending.{Mine, calls-lending}
 use Rattle.walks.proofs.Locals.{Slots, freed}
 use Rattle.walks.proofs.Pieces.{arm-of}
-use Rattle.table.proofs.Changing.{Fits, changedAt, changed-refused}
+use Rattle.table.proofs.Changing.{Fits, changed-refused}
 use Rattle.table.proofs.Callees.{Put, to-put, goes-put, put-is}
 use Rattle.table.proofs.put.Symbol as put-def
 use Rattle.table.proofs.put.Symbol.{name as #table·put}

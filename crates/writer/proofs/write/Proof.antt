@@ -24,8 +24,8 @@ passed c =
 put-frame-requires : tie.Need-put-frame-requires
 put-frame-requires c κs = let ok = accepted _ _ _ (passed (c .before)) in (ok .fits, (ok .short, ok .output))
 
-next-requires : tie.Need-next-requires
-next-requires c κs =
+advance-requires : tie.Need-advance-requires
+advance-requires c κs =
     let checked = c .before .before .before .before in
     accepted _ _ _ (passed checked) .short
 
@@ -34,7 +34,7 @@ returns-2 c =
     let put = c .before .before .before in
     let checked = put .before .before in
     let a = checked .before .before .before .before .before .args in
-    sends (a .sender) (a .given) (now (a .payload)) (now (a .out)) (passed checked) (c .next .ensures) (put .put-frame .ensures)
+    sends (a .sender) (a .given) (now (a .payload)) (now (a .out)) (passed checked) (c .advance .ensures) (put .put-frame .ensures)
 
 pub write-spec : {M : Type 1} → statement M
 write-spec =
@@ -45,6 +45,6 @@ write-spec =
     returns
     (λ c. search needs)
     put-frame-requires
-    next-requires
+    advance-requires
     (λ c. search needs)
     returns-2)

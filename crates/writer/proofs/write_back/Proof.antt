@@ -1,9 +1,9 @@
-use Rattle.writer.proofs.WriteBack.{write-number, write-bytes, written}
+use Rattle.writer.proofs.WriteBack.{write-number, left}
 use Rattle.writer.proofs.write_back.Statement.{statement}
 use Rattle.writer.proofs.write_back.Tie as tie
 
 returns : tie.Need-returns
-returns c = record { number = λ frame room bytes ok. write-number frame bytes ok room; bytes = write-bytes; written = λ frame out bytes ok plain. written frame bytes ok plain out }
+returns c = record { number = λ frame room bytes ok. write-number frame bytes ok room; left = λ frame out bytes ok fixed. left frame bytes ok fixed out }
 
 pub write-back-spec : {M : Type 1} → statement M
 write-back-spec = tie.close (tie.spec returns)

@@ -75,7 +75,8 @@ use Rattle.lines.specs.Lines.{admitted, removed}
 use Rattle.lines.proofs.Outcome as O
 use Rattle.lines.proofs.Outcome.Laws as O′
 use Rattle.walks.proofs.Lent.{calls-kept, calls-lent}
-use Rattle.listing.proofs.Obeying.{Obeys, length-admit, length-remove, length-receive, obeys-frame, obeys-admission, obeys-removal}
+use Rattle.table.proofs.Lengths.{length-admit, length-remove, length-receive}
+use Rattle.listing.proofs.Obeying.{Obeys, obeys-frame, obeys-admission, obeys-removal}
 use Rattle.listing.proofs.Callees.{machI, machO, Part, PartAlive, FrameAt, FrameAtSaid, to-frame-at, goes-frame-at, frame-at-is, Receive, ReceiveSaid, received, to-receive, goes-receive, receive-is, ChangerSaid, to-changer, goes-changer, changer-is, OfReceipt, OfReceiptSaid, to-of-receipt, goes-of-receipt, of-receipt-is, OfChange, OfChangeSaid, to-of-change, goes-of-change, of-change-is}
 use Rattle.listing.proofs.chunk.frame_at.Symbol as frame-at-def
 use Rattle.listing.proofs.chunk.frame_at.Symbol.{name as #frame-at}

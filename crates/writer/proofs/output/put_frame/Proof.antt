@@ -2,7 +2,7 @@ use mathlib.Core.Path.{refl}
 use denote.Ref.{now}
 use lib.ListN.{length}
 use borrow.Author.Needs.{needs}
-use Rattle.writer.specs.Frames.{ethernetBytes, avtpBytes, streamBytes, sourceBytes, formatBytes, headerBytes, frameOf}
+use Rattle.writer.specs.Frames.{ethernetBytes, avtpBytes, streamBytes, sourceBytes, formatBytes, headerBytes, frameBytes}
 use Rattle.writer.proofs.Accepted.{Fitting, fitting}
 use Rattle.writer.proofs.Stores.{behind}
 use Rattle.writer.proofs.output.put_frame.Statement.{statement}
@@ -24,11 +24,11 @@ put-format-requires : tie.Need-put-format-requires
 put-format-requires c κs = let fit = fits (c .before .before .before .before .before .before .before .before .before .before .before .before .before .before .before .before .before .before .before) in search needs
 
 returns : tie.Need-returns
-unfolding ethernetBytes avtpBytes streamBytes sourceBytes formatBytes headerBytes frameOf
+unfolding ethernetBytes avtpBytes streamBytes sourceBytes formatBytes headerBytes frameBytes
 returns c =
     let copy = c .before .before in
-    let format = copy .before .before .before .before in
-    let source = format .before .before .before .before in
+    let cip = copy .before .before .before .before in
+    let source = cip .before .before .before .before in
     let stream = source .before .before .before .before in
     let avtp = stream .before .before .before .before in
     let ethernet = avtp .before .before .before .before in
@@ -36,9 +36,9 @@ returns c =
     let a = start .args in
     let p = now (a .payload) in
     let out = now (a .out) in
-    behind 50 (headerBytes (a .sender) (a .given) (length p)) p out (format .put-format .last .0) (copy .copy .last .1 .0) refl
+    behind 50 (headerBytes (a .sender) (a .given) (length p)) p out (cip .put-format .last .0) (copy .copy .last .1 .0) refl
     (start .pre .1 .1)
-    (rw (format .put-format .ensures, source .put-source .ensures, stream .put-stream .ensures, avtp .put-avtp .ensures, ethernet .put-ethernet .ensures))
+    (rw (cip .put-format .ensures, source .put-source .ensures, stream .put-stream .ensures, avtp .put-avtp .ensures, ethernet .put-ethernet .ensures))
     (copy .copy .ensures .1)
 
 pub put-frame-spec : {M : Type 1} → statement M
