@@ -1,2 +1,4 @@
 pub mod Numbers
+pub mod Parts
 pub mod Bits
+pub mod Fits

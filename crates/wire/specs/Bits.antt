@@ -1,9 +1,9 @@
 -- Fields of bits, related to sums of powers of two (document 01, Frame layout).
 use Prim.Native.Nat.{ℕ, _+_, _*_, _/_, _%_, _^_, _<_}
-use mathlib.Core.Bool.{Bool, true, false}
+use mathlib.Core.Bool.{Bool, true, false, _&&_}
 use mathlib.Core.List.{List, [], _∷_}
 use lib.ListN.{getD}
-use lib.Dec.{eqb}
+use lib.Dec.{eqb, ltb}
 
 -- the w bits of n above its lowest s
 abbrev pub bits : ℕ → ℕ → ℕ → ℕ
@@ -35,6 +35,13 @@ Fit [] [] = Unit {0}
 Fit [] (v ∷ vs) = ⊥
 Fit (w ∷ ws) [] = ⊥
 Fit (w ∷ ws) (v ∷ vs) = (v < 2 ^ w) × Fit ws vs
+
+-- the same as a test
+abbrev pub fits : List ℕ → List ℕ → Bool
+fits [] [] = true
+fits [] (v ∷ vs) = false
+fits (w ∷ ws) [] = false
+fits (w ∷ ws) (v ∷ vs) = ltb v (2 ^ w) && fits ws vs
 
 -- a field of one bit as a truth value, and back
 abbrev pub flag : ℕ → Bool

@@ -30,9 +30,12 @@ part at k bs = take k (drop at bs)
 abbrev pub numberAt : ℕ → ℕ → List ℕ → ℕ
 numberAt at k bs = number (part at k bs)
 
--- the same, and 0 where bs ends before them
+-- what a spelling of bytes gives for them, and 0 where bs ends before they do
+abbrev pub spelledOr0 : (List ℕ → ℕ) → ℕ → ℕ → List ℕ → ℕ
+spelledOr0 spelled at k bs = cond (leb (at + k) (length bs)) (spelled (part at k bs)) 0
+
 abbrev pub numberOr0 : ℕ → ℕ → List ℕ → ℕ
-numberOr0 at k bs = cond (leb (at + k) (length bs)) (numberAt at k bs) 0
+numberOr0 at k bs = spelledOr0 number at k bs
 
 -- ---- A capture's own numbers are little-endian (document 01, Capture and listing)
 
@@ -40,10 +43,5 @@ numberOr0 at k bs = cond (leb (at + k) (length bs)) (numberAt at k bs) 0
 abbrev pub littleEndian : List ℕ → ℕ
 littleEndian bs = number (reverse bs)
 
--- the number in the k bytes of bs from place at on
-abbrev pub littleEndianAt : ℕ → ℕ → List ℕ → ℕ
-littleEndianAt at k bs = littleEndian (part at k bs)
-
--- the same, and 0 where bs ends before them
 abbrev pub littleEndianOr0 : ℕ → ℕ → List ℕ → ℕ
-littleEndianOr0 at k bs = cond (leb (at + k) (length bs)) (littleEndianAt at k bs) 0
+littleEndianOr0 at k bs = spelledOr0 littleEndian at k bs

@@ -6,14 +6,14 @@ use mathlib.Core.List.{[], _∷_}
 use borrow.Author.Tests.{ltb-false, not-false}
 use lib.Dec.{T}
 use mir.Facts.{and-yes}
-use Rattle.wire.specs.Bits.{Fit}
+use Rattle.wire.specs.Bits.{Fit, fits}
 use Rattle.frame.specs.Layout.{vlanRow, packetRow, sourceRow, fractionRow, formatRow}
 use Rattle.frame.specs.Checks.{misaddressed, partialBlock}
 use Rattle.refusal.proofs.First.{Clear, clear}
 use Rattle.writer.specs.declared.given.Given.{Given}
 use Rattle.writer.specs.Frames.{vlanValues, packetValues, sourceValues, fractionValues, formatValues}
-use Rattle.writer.specs.Writing.{fits, addressRow, ethernetFits, streamFits, cipFits, fieldsFit, writeChecks, writeRefusal}
-use Rattle.writer.proofs.Fits.{fit}
+use Rattle.writer.specs.Writing.{addressRow, ethernetFits, streamFits, cipFits, fieldsFit, writeChecks, writeRefusal}
+use Rattle.wire.proofs.Fits.{fit}
 
 -- each value is within the bits of its field
 pub record Fitting (g : Given) : Type 0 where

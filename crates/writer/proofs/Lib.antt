@@ -3,7 +3,6 @@ pub mod Fits
 pub mod Asked
 pub mod Accepted
 pub mod Answers
-pub mod Parts
 pub mod RowsBack
 pub mod ReadBack
 pub mod WriteBack

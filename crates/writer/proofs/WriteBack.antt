@@ -23,8 +23,8 @@ use Rattle.writer.specs.Frames.{vlanValues, packetValues, sourceValues, 
 use Rattle.writer.specs.Writing.{output, addressRow, ethernetFits, streamFits, cipFits, fieldsFit, writeChecks, writeRefusal}
 use Rattle.writer.specs.WriteBack.{FixedBits, senderOf, givenOf}
 use Rattle.writer.proofs.ReadBack.{size, output-of}
-use Rattle.writer.proofs.Fits.{fit-true}
-use Rattle.writer.proofs.Parts.{cut, length-part, number-part-lt, bytes-part}
+use Rattle.wire.proofs.Fits.{fit-true}
+use Rattle.wire.proofs.Parts.{cut, length-part, number-part-lt, bytes-part}
 use Rattle.writer.proofs.RowsBack.{bit-lt}
 
 -- one bit as a flag

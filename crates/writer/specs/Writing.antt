@@ -1,9 +1,10 @@
 -- What a write answers and leaves (document 01, Numbers answered and Sending).
-use Prim.Native.Nat.{ℕ, _+_, _%_, _^_}
-use mathlib.Core.Bool.{Bool, true, false, not, _&&_}
+use Prim.Native.Nat.{ℕ, _+_, _%_}
+use mathlib.Core.Bool.{Bool, not, _&&_}
 use mathlib.Core.List.{List, [], _∷_, _++_}
 use lib.ListN.{length, drop}
 use lib.Dec.{ltb}
+use Rattle.wire.specs.Bits.{fits}
 use Rattle.frame.specs.Layout.{vlanRow, packetRow, sourceRow, fractionRow, formatRow}
 use Rattle.refusal.specs.Refusals.{numberOf, ifAccepted, Check, _answers_, firstOf}
 use Rattle.frame.specs.Checks.{misaddressed, partialBlock}
@@ -18,13 +19,6 @@ use Rattle.writer.specs.declared.given.Given.{Given}
 use Rattle.writer.specs.Frames.{vlanValues, packetValues, sourceValues, fractionValues, formatValues, frameBytes}
 
 -- ---- A field fits its bits
-
--- each value is within the bits of its field
-abbrev pub fits : List ℕ → List ℕ → Bool
-fits [] [] = true
-fits [] (v ∷ vs) = false
-fits (w ∷ ws) [] = false
-fits (w ∷ ws) (v ∷ vs) = ltb v (2 ^ w) && fits ws vs
 
 -- addresses are 48-bit numbers
 abbrev pub addressRow : List ℕ

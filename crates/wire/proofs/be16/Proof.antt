@@ -2,7 +2,8 @@ use Prim.Native.Nat.{_+_}
 use native.Mathlib.Omega.{arith}
 use lib.Dec.{lit≤}
 use denote.Ref.{now}
-use Rattle.wire.proofs.Numbers.{missing, present, byte-there, beside}
+use Rattle.wire.specs.Numbers.{number}
+use Rattle.wire.proofs.Numbers.{missing, present, one-byte, byte-there, beside}
 use borrow.Author.Needs.{needs}
 use Rattle.wire.proofs.be16.Statement.{statement}
 use Rattle.wire.proofs.be16.Tie as tie
@@ -11,7 +12,7 @@ holds-requires : tie.Need-holds-requires
 holds-requires c κs = search needs
 
 returns : tie.Need-returns
-returns c = let a = c .before .before .before .args in missing (a .at) 2 (now (a .s)) (c .before .holds .ensures) (c .if1 .taken)
+returns c = let a = c .before .before .before .args in missing number (a .at) 2 (now (a .s)) (c .before .holds .ensures) (c .if1 .taken)
 
 shared-slice-read-result : tie.Need-shared-slice-read-result
 shared-slice-read-result c = let a = c .before .before .before .before .args in omega (arith, present (a .at) 2 (now (a .s)) (c .before .before .holds .ensures) (c .before .if1 .left))
@@ -34,7 +35,7 @@ returns-2 c =
     let a = x .before .before .before .args in
     let s = now (a .s) in
     let h = present (a .at) 2 s (x .before .holds .ensures) (x .if1 .left) in
-    beside (a .at) 1 1 16 s h (lit≤ tt) (byte-there (a .at) s (omega arith)) (byte-there (a .at + 1) s (omega arith))
+    beside (a .at) 1 1 16 s h (lit≤ tt) (byte-there number one-byte (a .at) s (omega arith)) (byte-there number one-byte (a .at + 1) s (omega arith))
     (omega (arith, c .shared-slice-known3 .given (a .at)))
     (omega (arith, c .shared-slice-known3 .given (a .at + 1)))
 

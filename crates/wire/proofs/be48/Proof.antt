@@ -1,6 +1,7 @@
 use native.Mathlib.Omega.{arith}
 use lib.Dec.{lit≤}
 use denote.Ref.{now}
+use Rattle.wire.specs.Numbers.{number}
 use Rattle.wire.proofs.Numbers.{missing, present, beside}
 use borrow.Author.Needs.{needs}
 use Rattle.wire.proofs.be48.Statement.{statement}
@@ -10,7 +11,7 @@ holds-requires : tie.Need-holds-requires
 holds-requires c κs = search needs
 
 returns : tie.Need-returns
-returns c = let a = c .before .before .before .args in missing (a .at) 6 (now (a .s)) (c .before .holds .ensures) (c .if1 .taken)
+returns c = let a = c .before .before .before .args in missing number (a .at) 6 (now (a .s)) (c .before .holds .ensures) (c .if1 .taken)
 
 be16-requires : tie.Need-be16-requires
 be16-requires c κs = search needs

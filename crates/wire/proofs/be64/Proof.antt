@@ -1,13 +1,14 @@
 use native.Mathlib.Omega.{arith}
 use lib.Dec.{lit≤}
 use denote.Ref.{now}
+use Rattle.wire.specs.Numbers.{number}
 use Rattle.wire.proofs.Numbers.{missing, present, beside}
 use borrow.Author.Needs.{needs}
 use Rattle.wire.proofs.be64.Statement.{statement}
 use Rattle.wire.proofs.be64.Tie as tie
 
 returns : tie.Need-returns
-returns c = let a = c .before .before .before .args in missing (a .at) 8 (now (a .s)) (c .before .holds .ensures) (c .if1 .taken)
+returns c = let a = c .before .before .before .args in missing number (a .at) 8 (now (a .s)) (c .before .holds .ensures) (c .if1 .taken)
 
 add-be32 : tie.Need-add-be32
 add-be32 c = let a = c .before .before .before .args in omega (arith, present (a .at) 8 (now (a .s)) (c .before .holds .ensures) (c .if1 .left))

@@ -4,7 +4,8 @@ use lib.Dec.{lit≤}
 use lib.ListN.{length}
 use denote.Ref.{now}
 use borrow.Author.Needs.{needs}
-use Rattle.wire.proofs.Numbers.{present, le-missing, le-byte-there, le-beside}
+use Rattle.wire.specs.Numbers.{littleEndian}
+use Rattle.wire.proofs.Numbers.{present, missing, one-byte, byte-there, le-beside}
 use Rattle.wire.proofs.le16.Statement.{statement}
 use Rattle.wire.proofs.le16.Tie as tie
 
@@ -12,7 +13,7 @@ holds-requires : tie.Need-holds-requires
 holds-requires c κs = search needs
 
 returns : tie.Need-returns
-returns c = let a = c .before .before .before .args in le-missing (a .at) 2 (now (a .s)) (c .before .holds .ensures) (c .if1 .taken)
+returns c = let a = c .before .before .before .args in missing littleEndian (a .at) 2 (now (a .s)) (c .before .holds .ensures) (c .if1 .taken)
 
 -- past the test both bytes are there
 both : (c : tie.Else1) → c .before .before .before .args .at + 2 ≤ length (now (c .before .before .before .args .s))
@@ -38,7 +39,7 @@ returns-2 c =
     let h = both (c .before .before) in
     let a = c .before .before .before .before .before .args in
     let s = now (a .s) in
-    le-beside (a .at) 1 1 16 s h (lit≤ tt) (le-byte-there (a .at + 1) s (omega arith)) (le-byte-there (a .at) s (omega arith))
+    le-beside (a .at) 1 1 16 s h (lit≤ tt) (byte-there littleEndian one-byte (a .at + 1) s (omega arith)) (byte-there littleEndian one-byte (a .at) s (omega arith))
     (omega (arith, c .shared-slice-known3 .given (a .at + 1)))
     (omega (arith, c .shared-slice-known3 .given (a .at)))
 

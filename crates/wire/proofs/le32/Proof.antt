@@ -4,7 +4,8 @@ use lib.Dec.{lit≤}
 use lib.ListN.{length}
 use denote.Ref.{now}
 use borrow.Author.Needs.{needs}
-use Rattle.wire.proofs.Numbers.{present, le-missing, le-beside}
+use Rattle.wire.specs.Numbers.{littleEndian}
+use Rattle.wire.proofs.Numbers.{present, missing, le-beside}
 use Rattle.wire.proofs.le32.Statement.{statement}
 use Rattle.wire.proofs.le32.Tie as tie
 
@@ -12,7 +13,7 @@ holds-requires : tie.Need-holds-requires
 holds-requires c κs = search needs
 
 returns : tie.Need-returns
-returns c = let a = c .before .before .before .args in le-missing (a .at) 4 (now (a .s)) (c .before .holds .ensures) (c .if1 .taken)
+returns c = let a = c .before .before .before .args in missing littleEndian (a .at) 4 (now (a .s)) (c .before .holds .ensures) (c .if1 .taken)
 
 -- past the test all of the bytes are there
 all : (c : tie.Else1) → c .before .before .before .args .at + 4 ≤ length (now (c .before .before .before .args .s))
