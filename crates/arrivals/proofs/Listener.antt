@@ -14,11 +14,11 @@ use Rattle.refusal.proofs.First.{clear, orElse}
 use Rattle.writer.specs.declared.Sender.{Sender}
 use Rattle.writer.specs.Frames.{frameBytes}
 use Rattle.writer.specs.Writing.{writeRefusal, advanced, writing}
-use Rattle.writer.specs.ReadBack.{SenderTyped, GivenTyped, fieldsWritten}
-use Rattle.writer.specs.WriteBack.{senderOf}
-use Rattle.writer.specs.Successive.{Call, successive, CallsTyped, Delivered, senderAfter, Gapless}
-use Rattle.writer.proofs.ReadBack.{fields-back}
-use Rattle.writer.proofs.Gapless.{advanced-typed, gapless}
+use Rattle.round_trip.specs.ReadBack.{SenderTyped, GivenTyped, fieldsWritten}
+use Rattle.round_trip.specs.WriteBack.{senderOf}
+use Rattle.round_trip.specs.Successive.{Call, successive, CallsTyped, Delivered, senderAfter, Gapless}
+use Rattle.round_trip.proofs.ReadBack.{fields-back}
+use Rattle.round_trip.proofs.Gapless.{advanced-typed, gapless}
 use Rattle.stream.specs.declared.Record.{Record}
 use Rattle.stream.specs.Records.{admitted}
 use Rattle.stream.specs.Answers.{Answer, answerOf, after, idOf}

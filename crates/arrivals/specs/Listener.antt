@@ -5,8 +5,8 @@ use mathlib.Core.Bool.{false}
 use mathlib.Core.List.{List, [], _∷_, map}
 use lib.ListN.{drop}
 use Rattle.writer.specs.declared.Sender.{Sender}
-use Rattle.writer.specs.ReadBack.{SenderTyped}
-use Rattle.writer.specs.Successive.{Call, successive, CallsTyped, Delivered}
+use Rattle.round_trip.specs.ReadBack.{SenderTyped}
+use Rattle.round_trip.specs.Successive.{Call, successive, CallsTyped, Delivered}
 use Rattle.stream.specs.Answers.{Answer}
 use Rattle.table.specs.Table.{Table, admit}
 use Rattle.arrivals.specs.Arrivals.{Arrival, run}

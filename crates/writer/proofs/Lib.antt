@@ -3,7 +3,3 @@ pub mod Fits
 pub mod Asked
 pub mod Accepted
 pub mod Answers
-pub mod RowsBack
-pub mod ReadBack
-pub mod WriteBack
-pub mod Gapless

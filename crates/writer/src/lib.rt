@@ -10,9 +10,6 @@ use refusal::Verdict;
 ghost use mathlib.Core.Path.{_≡_};
 ghost use Prim.Native.Nat.{_≤_};
 ghost use lib.ListN.{length};
-ghost use Rattle.writer.specs.ReadBack.{ReadBack};
-ghost use Rattle.writer.specs.Successive.{Successive};
-ghost use Rattle.writer.specs.WriteBack.{WriteBack};
 ghost use Rattle.writer.specs.Writing.{advanced, writeAnswer, writing, output};
 
 // The next sequence number and block count.
@@ -52,18 +49,3 @@ pub fn write(sender: Sender, given: Given, payload: &[u8], out: &mut [u8]) -> Wr
     output::put_frame(sender, given, payload, out);
     Written::Sent(advance(sender, given, payload))
 }
-
-// What is written is read back as it was given.
-fn read_back()
-    ensures { λ _. ⌜ ReadBack ⌝ }
-{}
-
-// What was read can be written, and is the same bytes.
-fn write_back()
-    ensures { λ _. ⌜ WriteBack ⌝ }
-{}
-
-// One sender's frames follow each other without a gap.
-fn successive()
-    ensures { λ _. ⌜ Successive ⌝ }
-{}

@@ -19,13 +19,13 @@ use Rattle.frame.specs.Checks.{misaddressed, partialBlock, lengthChecks, ethern
 use Rattle.frame.specs.Reading.{payloadOf}
 use Rattle.refusal.proofs.First.{clear}
 use Rattle.frame.proofs.Groups.{accepted-room}
 use Rattle.writer.specs.Frames.{vlanValues, packetValues, sourceValues, fractionValues, formatValues, ethernetBytes, avtpBytes, streamBytes, sourceBytes, formatBytes, headerBytes, frameBytes}
 use Rattle.writer.specs.Writing.{output, addressRow, ethernetFits, streamFits, cipFits, fieldsFit, writeChecks, writeRefusal}
-use Rattle.writer.specs.WriteBack.{FixedBits, senderOf, givenOf}
-use Rattle.writer.proofs.ReadBack.{size, output-of}
+use Rattle.round_trip.specs.WriteBack.{FixedBits, senderOf, givenOf}
+use Rattle.round_trip.proofs.ReadBack.{size, output-of}
 use Rattle.wire.proofs.Fits.{fit-true}
 use Rattle.wire.proofs.Parts.{cut, length-part, number-part-lt, bytes-part}
-use Rattle.writer.proofs.RowsBack.{bit-lt}
+use Rattle.round_trip.proofs.RowsBack.{bit-lt}
 
 -- one bit as a flag
 bit-flag : (n : ℕ) → n < 2 → bit (flag n) ≡ n

@@ -13,13 +13,13 @@ use Rattle.frame.specs.Layout.{vlanRow, validRow, uncertainRow, packetRow, sour
 use Rattle.frame.specs.Checks.{lengthChecks, ethernetChecks, avtpChecks, addressChecks, streamChecks, blockChecks, headerChecks, readChecks, frameChecks, refusal}
 use Rattle.frame.specs.Reading.{reading, payloadOf}
 use Rattle.refusal.proofs.First.{none}
 use Rattle.writer.specs.declared.Sender.{Sender}
 use Rattle.writer.specs.declared.given.Given.{Given}
 use Rattle.writer.specs.Frames.{vlanValues, validValues, uncertainValues, packetValues, sourceValues, fractionValues, formatValues, ethernetBytes, avtpBytes, streamBytes, sourceBytes, formatBytes, headerBytes, frameBytes}
 use Rattle.writer.specs.Writing.{writeRefusal, writing, output}
-use Rattle.writer.specs.ReadBack.{SenderTyped, GivenTyped, fieldsWritten, frameLeft, ReadBack}
+use Rattle.round_trip.specs.ReadBack.{SenderTyped, GivenTyped, fieldsWritten, frameLeft, ReadBack}
 use Rattle.writer.proofs.Accepted.{Accepted, accepted, fitting}
-use Rattle.writer.proofs.RowsBack.{bit-lt, row-back, flag-back}
+use Rattle.round_trip.proofs.RowsBack.{bit-lt, row-back, flag-back}
 
 -- one fact, and then others
 infixr 20 _also_

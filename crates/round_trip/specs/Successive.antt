@@ -7,12 +7,12 @@ use Rattle.refusal.specs.Refusals.{ifAccepted}
 use Rattle.frame.specs.Layout.{fieldsOf}
 use Rattle.frame.specs.Checks.{refusal}
 use Rattle.frame.specs.Reading.{payloadOf, blocksOf}
 use Rattle.writer.specs.declared.Sender.{Sender}
 use Rattle.writer.specs.declared.given.Given.{Given}
 use Rattle.writer.specs.Frames.{frameBytes}
 use Rattle.writer.specs.Writing.{writing}
-use Rattle.writer.specs.ReadBack.{SenderTyped, GivenTyped}
-use Rattle.writer.specs.WriteBack.{senderOf}
+use Rattle.round_trip.specs.ReadBack.{SenderTyped, GivenTyped}
+use Rattle.round_trip.specs.WriteBack.{senderOf}
 
 -- a write that is asked of a sender, into an output of room bytes
 pub record Call : Type 0 where

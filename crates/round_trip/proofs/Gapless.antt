@@ -8,14 +8,14 @@ use lib.ListN.{length}
 use Rattle.refusal.specs.Refusals.{ifAccepted}
 use Rattle.frame.specs.Layout.{fieldsOf}
 use Rattle.frame.specs.Reading.{blocksOf}
 use Rattle.writer.specs.declared.Sender.{Sender}
 use Rattle.writer.specs.declared.given.Given.{Given}
 use Rattle.writer.specs.Frames.{frameBytes}
 use Rattle.writer.specs.Writing.{writeRefusal, advanced, writing}
-use Rattle.writer.specs.ReadBack.{SenderTyped, GivenTyped, fieldsWritten}
-use Rattle.writer.specs.WriteBack.{senderOf}
-use Rattle.writer.specs.Successive.{Call, successive, CallsTyped, Delivered, Gapless, senderAfter}
-use Rattle.writer.proofs.ReadBack.{fields-back, refusal-back, payload-back}
+use Rattle.round_trip.specs.ReadBack.{SenderTyped, GivenTyped, fieldsWritten}
+use Rattle.round_trip.specs.WriteBack.{senderOf}
+use Rattle.round_trip.specs.Successive.{Call, successive, CallsTyped, Delivered, Gapless, senderAfter}
+use Rattle.round_trip.proofs.ReadBack.{fields-back, refusal-back, payload-back}
 
 pub advanced-typed : (s : Sender) (g : Given) (payload : List ℕ) → SenderTyped (advanced s g payload)
 unfolding advanced

@@ -1,6 +1,6 @@
-use Rattle.writer.proofs.WriteBack.{write-number, left}
-use Rattle.writer.proofs.write_back.Statement.{statement}
-use Rattle.writer.proofs.write_back.Tie as tie
+use Rattle.round_trip.proofs.WriteBack.{write-number, left}
+use Rattle.round_trip.proofs.write_back.Statement.{statement}
+use Rattle.round_trip.proofs.write_back.Tie as tie
 
 returns : tie.Need-returns
 returns c = record { number = λ frame room bytes ok. write-number frame bytes ok room; left = λ frame out bytes ok fixed. left frame bytes ok fixed out }

@@ -1,0 +1,4 @@
+pub mod RowsBack
+pub mod ReadBack
+pub mod WriteBack
+pub mod Gapless
