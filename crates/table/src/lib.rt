@@ -245,8 +245,8 @@ pub fn admit(table: &mut [Record], id: u64) -> Change
 pub fn remove(table: &mut [Record], id: u64) -> Change
     ensures { λ r. ⌜ ChangedBy remove (now (table .entry)) id r (now (table .exit)) ⌝ }
 {
-    let held = find(table, Wanted::Holding(id));
-    let target = place_to_remove(table.len(), held);
+    let found = find(table, Wanted::Holding(id));
+    let target = place_to_remove(table.len(), found);
     store(table, target, stream::unused())
 }
 
