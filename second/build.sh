@@ -1,0 +1,21 @@
+#!/usr/bin/env bash
+# Builds the second program, its unit tests and the generator of captures.
+#
+#   build.sh OUTDIR
+#
+# Puts second_list, unit_tests and generate into OUTDIR. RUSTC may name the
+# compiler.
+set -euo pipefail
+
+if (($# != 1)); then
+    echo "usage: build.sh OUTDIR" >&2
+    exit 2
+fi
+out=$1
+here=$(cd "$(dirname "${BASH_SOURCE[0]}")" && pwd)
+rustc=${RUSTC:-rustc}
+mkdir -p "$out"
+
+"$rustc" -O --edition 2021 -o "$out/second_list" "$here/listing.rs"
+"$rustc" --test --edition 2021 -o "$out/unit_tests" "$here/listing.rs"
+"$rustc" -O --edition 2021 -o "$out/generate" "$here/generate.rs"
