@@ -16,6 +16,8 @@ here=$(cd "$(dirname "${BASH_SOURCE[0]}")" && pwd)
 rustc=${RUSTC:-rustc}
 mkdir -p "$out"
 
-"$rustc" -O --edition 2021 -o "$out/second_list" "$here/listing.rs"
-"$rustc" --test --edition 2021 -o "$out/unit_tests" "$here/listing.rs"
+# The listing program is optimised as one whole. Else rustc cuts it up by its
+# modules, and calls from one room to another are not inlined.
+"$rustc" -O -C lto=fat --edition 2021 -o "$out/second_list" "$here/list.rs"
+"$rustc" --test --edition 2021 -o "$out/unit_tests" "$here/list.rs"
 "$rustc" -O --edition 2021 -o "$out/generate" "$here/generate.rs"
