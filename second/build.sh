@@ -20,4 +20,4 @@ mkdir -p "$out"
 # modules, and calls from one room to another are not inlined.
 "$rustc" -O -C lto=fat --edition 2021 -o "$out/second_list" "$here/list.rs"
 "$rustc" --test --edition 2021 -o "$out/unit_tests" "$here/list.rs"
-"$rustc" -O --edition 2021 -o "$out/generate" "$here/generate.rs"
+"$rustc" -O --edition 2021 -o "$out/generate" "$here/generate/main.rs"
