@@ -1,14 +1,14 @@
 #!/usr/bin/env bash
-# Compares a capture lister with the second program, on generated captures.
+# Compares the first program with the second, on generated captures.
 #
 #   compare.sh LISTER [SEED [COUNT]]
 #
-# LISTER takes capture files by name, or a capture on standard input. Both
-# programs list COUNT captures made from SEED, and their listings must agree byte
-# for byte; some captures also go to LISTER through a pipe in small pieces. Then
-# it is shown how often each thing that a listing can say came up, and each that
-# must come up has to. A capture that differs is named by its number; it is made
-# again by `generate DIR SEED COUNT`.
+# LISTER is the first program: it lists capture files by name, or a capture on
+# standard input. Both programs list COUNT captures made from SEED, and their
+# listings must agree byte for byte; some captures also go to the first program
+# through a pipe in small pieces. Then it is shown how often each thing that a
+# listing can say came up, and each that must come up has to. A capture that
+# differs is named by its number; it is made again by `generate DIR SEED COUNT`.
 set -euo pipefail
 
 if (($# < 1 || $# > 3)); then
@@ -21,11 +21,15 @@ if [[ ! -f $1 || ! -x $1 ]]; then
     echo "compare.sh: $1: no program" >&2
     exit 2
 fi
-lister=$(cd "$(dirname "$1")" && pwd)/$(basename "$1")
 here=$(cd "$(dirname "${BASH_SOURCE[0]}")" && pwd)
 
 work=$(mktemp -d)
 trap 'rm -rf "$work"' EXIT
+# The two programs, and where their listings of the same captures go.
+first_list=$(cd "$(dirname "$1")" && pwd)/$(basename "$1")
+second_list=$work/second_list
+first_out=$work/first.out
+second_out=$work/second.out
 
 # Files listed by one call.
 batch_size=100
@@ -36,10 +40,7 @@ patience=120
 
 # --- Build and unit tests ---------------------------------------------------
 
-rustc=${RUSTC:-rustc}
-"$rustc" -O --edition 2021 -o "$work/second_list" "$here/listing.rs"
-"$rustc" -O --edition 2021 -o "$work/generate" "$here/generate.rs"
-"$rustc" --test --edition 2021 -o "$work/unit_tests" "$here/listing.rs"
+"$here/build.sh" "$work"
 if ! "$work/unit_tests" --quiet >"$work/unit_tests.out" 2>&1; then
     cat "$work/unit_tests.out"
     echo "comparison: the second program's own tests fail"
@@ -69,37 +70,37 @@ report() {
         echo "  status $status; $(head -n 1 "$work/errors")"
     fi
     # The first line that only one of them has.
-    { diff "$work/ours" "$work/theirs" || true; } >"$work/diff"
-    echo "  second program: $(grep -m 1 '^<' "$work/diff" || echo '(nothing more)')"
-    echo "  lister:         $(grep -m 1 '^>' "$work/diff" || echo '(nothing more)')"
+    { diff "$first_out" "$second_out" || true; } >"$work/diff"
+    echo "  first program:  $(grep -m 1 '^<' "$work/diff" || echo '(nothing more)')"
+    echo "  second program: $(grep -m 1 '^>' "$work/diff" || echo '(nothing more)')"
 }
 
-# Runs the lister on the files given, or on standard input, and compares what it
-# writes with the listing in $work/ours. Answers whether they agree, and sets
-# the status.
+# Runs the first program on the files given, or on standard input, and compares
+# what it writes with the second program's listing. Answers whether they agree,
+# and sets the status.
 status=0
 agrees() {
     status=0
-    timeout "$patience" "$lister" "$@" >"$work/theirs" 2>"$work/errors" || status=$?
-    ((status == 0)) && cmp -s "$work/ours" "$work/theirs"
+    timeout "$patience" "$first_list" "$@" >"$first_out" 2>"$work/errors" || status=$?
+    ((status == 0)) && cmp -s "$first_out" "$second_out"
 }
 
-for ((first = 0; first < ${#captures[@]}; first += batch_size)); do
-    batch=("${captures[@]:first:batch_size}")
-    "$work/second_list" "${batch[@]}" >"$work/ours"
-    cat "$work/ours" >>"$listings"
+for ((from = 0; from < ${#captures[@]}; from += batch_size)); do
+    batch=("${captures[@]:from:batch_size}")
+    "$second_list" "${batch[@]}" >"$second_out"
+    cat "$second_out" >>"$listings"
     if agrees "${batch[@]}"; then
         continue
     fi
     before=${#differing[@]}
     for name in "${batch[@]}"; do
-        "$work/second_list" "$name" >"$work/ours"
+        "$second_list" "$name" >"$second_out"
         if ! agrees "$name"; then
             report "$name" "listed from its file" "$status"
         fi
     done
     if ((${#differing[@]} == before)); then
-        "$work/second_list" "${batch[@]}" >"$work/ours"
+        "$second_list" "${batch[@]}" >"$second_out"
         agrees "${batch[@]}" || true
         report "${batch[0]}" "listed in one call with the ${#batch[@]} from it on" "$status"
     fi
@@ -115,7 +116,7 @@ for ((i = 0; i < ${#captures[@]}; i += piped_each)); do
     if ((piece == 1 && $(wc -c <"$name") > 200000)); then
         piece=100
     fi
-    "$work/second_list" "$name" >"$work/ours"
+    "$second_list" "$name" >"$second_out"
     if ! agrees < <("$work/generate" --drip "$name" "$piece"); then
         report "$name" "piped $piece bytes at a time" "$status"
     fi

@@ -1,0 +1,77 @@
+//! The CIP header of IEC 61883-1.
+
+/// Length of the CIP header, which stream_data_length counts in.
+pub const CIP_HEADER: usize = 8;
+
+/// The CIP header, without its indicators and reserved bits.
+#[allow(dead_code)] // a listing prints no field of the header itself
+#[derive(Clone, Copy, Debug, PartialEq, Eq)]
+pub struct Cip {
+    pub sid: u8,
+    pub dbs: u8,
+    pub fraction: u8,
+    pub qpc: u8,
+    pub sph: bool,
+    pub dbc: u8,
+    pub fmt: u8,
+    pub fdf: u8,
+    /// SYT where SPH is 0, the lower bits of a 24-bit FDF where SPH is 1.
+    pub low_half: u16,
+}
+
+/// The fields whose change is a change of a stream's format.
+#[derive(Clone, Copy, Debug, Default, PartialEq, Eq)]
+pub struct Format {
+    pub fmt: u8,
+    pub dbs: u8,
+    pub fraction: u8,
+    pub sph: bool,
+}
+
+impl Cip {
+    /// Takes the CIP header apart.
+    pub fn parse(cip: &[u8; CIP_HEADER]) -> Cip {
+        Cip {
+            sid: cip[0] & 0x3F,
+            dbs: cip[1],
+            fraction: cip[2] >> 6,
+            qpc: cip[2] >> 3 & 7,
+            sph: cip[2] & 4 != 0,
+            dbc: cip[3],
+            fmt: cip[4] & 0x3F,
+            fdf: cip[5],
+            low_half: u16::from_be_bytes([cip[6], cip[7]]),
+        }
+    }
+
+    /// Bytes in one data block; DBS 0 stands for 256 quadlets.
+    pub fn block_size(&self) -> u32 {
+        if self.dbs == 0 {
+            1024
+        } else {
+            4 * u32::from(self.dbs)
+        }
+    }
+
+    /// The format that the header shows.
+    pub fn format(&self) -> Format {
+        Format { fmt: self.fmt, dbs: self.dbs, fraction: self.fraction, sph: self.sph }
+    }
+}
+
+#[cfg(test)]
+mod tests {
+    use super::*;
+
+    #[test]
+    fn each_field_to_its_edges() {
+        let zero = Cip::parse(&[0xC0, 0, 3, 0, 0xC0, 0, 0, 0]);
+        assert_eq!(zero, Cip::parse(&[0; CIP_HEADER]));
+        assert_eq!((zero.block_size(), zero.format()), (1024, Format::default()));
+        let full = Cip::parse(&[0xFF; CIP_HEADER]);
+        assert_eq!((full.sid, full.dbs, full.fraction, full.qpc), (63, 255, 3, 7));
+        assert_eq!((full.sph, full.dbc, full.fmt, full.fdf), (true, 255, 63, 255));
+        assert_eq!((full.low_half, full.block_size()), (0xFFFF, 1020));
+        assert_eq!(full.format(), Format { fmt: 63, dbs: 255, fraction: 3, sph: true });
+    }
+}

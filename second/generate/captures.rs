@@ -1,0 +1,46 @@
+//! Captures, put together record by record.
+
+/// Size of most captures.
+pub const SMALL: usize = 56_000;
+
+/// A capture being put together.
+pub struct Capture {
+    pub bytes: Vec<u8>,
+    /// No further record is put in once the capture has this many bytes.
+    limit: usize,
+    /// Where the last record put in starts.
+    pub last: usize,
+}
+
+impl Capture {
+    pub fn new(limit: usize) -> Capture {
+        Capture { bytes: Vec::new(), limit, last: 0 }
+    }
+
+    pub fn full(&self) -> bool {
+        self.bytes.len() >= self.limit
+    }
+
+    /// Puts in a record: its length, then what the length counts.
+    pub fn record(&mut self, counted: &[u8]) {
+        self.last = self.bytes.len();
+        self.bytes.extend_from_slice(&(counted.len() as u16).to_le_bytes());
+        self.bytes.extend_from_slice(counted);
+    }
+
+    pub fn kind(&mut self, kind: u16, body: &[u8]) {
+        self.record(&[&kind.to_le_bytes()[..], body].concat());
+    }
+
+    pub fn frame(&mut self, arrival: u64, frame: &[u8]) {
+        self.kind(1, &[&arrival.to_le_bytes()[..], frame].concat());
+    }
+
+    pub fn admit(&mut self, id: u64) {
+        self.kind(2, &id.to_be_bytes());
+    }
+
+    pub fn remove(&mut self, id: u64) {
+        self.kind(3, &id.to_be_bytes());
+    }
+}

@@ -1,0 +1,61 @@
+//! Frames that a check refuses.
+
+use crate::chance::Chance;
+use crate::frames::{block_size, Frame};
+
+/// Makes the frame one that check `number` (3 to 14) refuses, if no other does.
+pub fn spoil(chance: &mut Chance, frame: &mut Frame, number: u8) {
+    match number {
+        3 => frame.tpid = chance.pick(&[0x8101, 0x8000, 0x0100, 0x9100, 0x88A8, 0x0081, 0]),
+        4 => frame.cfi = true,
+        5 => frame.ethertype = chance.pick(&[0x22F1, 0x22E0, 0x22F8, 0x23F0, 0xF022, 0x0800]),
+        6 => frame.cd = true,
+        7 => frame.subtype = chance.pick(&[1, 2, 4, 8, 16, 32, 64, 0x7E, 0x7F]),
+        8 => frame.version = chance.pick(&[1, 2, 4, 7]),
+        9 => frame.sv = false,
+        10 => match chance.below(4) {
+            0 => frame.destination = [0; 6],
+            1 => frame.destination[0] &= !1,
+            2 => frame.source[0] |= 1,
+            _ => std::mem::swap(&mut frame.destination, &mut frame.source),
+        },
+        11 => {
+            let over = chance.pick(&[1, 1, 1, 2, 4, 256, 4096]);
+            frame.stream_data_length =
+                if chance.one_in(8) { u16::MAX } else { frame.room() + over };
+        }
+        12 => frame.tag = chance.pick(&[0, 2, 3]),
+        13 => frame.stream_data_length = chance.pick(&[0, 1, 4, 6, 7, 7]),
+        _ => {
+            if frame.payload.len() < 4 {
+                frame.carry(vec![0; block_size(frame.dbs)]);
+            }
+            // One to three bytes missing, or a quadlet of a longer block.
+            let missing = if frame.dbs != 1 && chance.flip() { 4 } else { chance.within(1, 3) };
+            frame.stream_data_length = (frame.payload.len() + 8 - missing) as u16;
+            if chance.flip() {
+                frame.payload.truncate(frame.payload.len() - missing);
+            }
+        }
+    }
+}
+
+/// The bytes of a frame that check `number` refuses, if no other does.
+pub fn spoiled(chance: &mut Chance, frame: &mut Frame, number: u8) -> Vec<u8> {
+    match number {
+        1 => {
+            let mut bytes = frame.bytes();
+            bytes.truncate(chance.pick(&[41, 41, 41, 40, 18, 1, 0]));
+            bytes
+        }
+        2 => {
+            let mut bytes = frame.bytes();
+            bytes.resize(chance.pick(&[1519, 1519, 1519, 1520, 1522, 2048, 4096]), 0xA5);
+            bytes
+        }
+        _ => {
+            spoil(chance, frame, number);
+            frame.bytes()
+        }
+    }
+}

@@ -1,0 +1,201 @@
+//! Captures at the edges of one rule each.
+
+use crate::captures::{Capture, SMALL};
+use crate::chance::Chance;
+use crate::damage::{spoil, spoiled};
+use crate::frames::{block_size, Frame};
+use crate::senders::{stream_ids, Sender};
+use crate::times::{arrival, offset, stamp};
+
+/// Frames that one check refuses, or two, or none.
+pub fn refusals(chance: &mut Chance) -> Capture {
+    let mut capture = Capture::new(SMALL);
+    let mut sender = Sender::new(chance, 7);
+    sender.most_blocks = sender.most_blocks.min(if sender.frame.dbs == 0 { 1 } else { 4 });
+    capture.admit(7);
+    for round in 0..60 {
+        if capture.full() {
+            break;
+        }
+        let at = arrival(chance);
+        let mut frame = sender.send(chance, at);
+        let first = 1 + (round % 15) as u8;
+        if first == 15 {
+            frame.stream_id = 8;
+            if chance.flip() {
+                let number = chance.within(3, 14) as u8;
+                spoil(chance, &mut frame, number);
+            }
+            capture.frame(at, &frame.bytes());
+        } else {
+            let second = chance.within(3, 14) as u8;
+            if round >= 15 && second != first {
+                spoil(chance, &mut frame, second);
+            }
+            let bytes = spoiled(chance, &mut frame, first);
+            capture.frame(at, &bytes);
+        }
+        if chance.flip() {
+            capture.frame(at, &sender.send(chance, at).bytes());
+        }
+    }
+    capture
+}
+
+/// Frame lengths and stream_data_lengths at their edges.
+pub fn lengths(chance: &mut Chance) -> Capture {
+    let mut capture = Capture::new(SMALL);
+    capture.admit(0);
+    for _ in 0..60 {
+        if capture.full() {
+            break;
+        }
+        let mut frame = Frame::sound(chance, 0);
+        frame.dbs = chance.pick(&[1, 1, 1, 2, 0]);
+        let length = chance.pick(&[
+            0, 1, 17, 18, 40, 41, 42, 43, 48, 49, 50, 51, 53, 54, 57, 58, 60, 64, 1073, 1074, 1075,
+            1514, 1517, 1518, 1519, 1520,
+        ]);
+        let payload = usize::saturating_sub(length, 50);
+        frame.carry(chance.bytes(payload));
+        frame.stream_data_length = match chance.below(7) {
+            0 => length.saturating_sub(42) as u16,
+            1 => length.saturating_sub(41) as u16,
+            2 => chance.pick(&[0, 1, 7, 8, 9, 12, 16, 1032, 1028, 1036]),
+            3 => chance.pick(&[1468, 1476, 1477, 65_535, 32_768, 256]),
+            // As many whole blocks as there is room for, the rest padding.
+            _ => (payload / block_size(frame.dbs) * block_size(frame.dbs) + 8) as u16,
+        };
+        let mut bytes = frame.bytes();
+        bytes.truncate(length);
+        capture.frame(arrival(chance), &bytes);
+    }
+    capture
+}
+
+/// Admissions past the table's end, removals, and admissions again.
+pub fn admissions(chance: &mut Chance) -> Capture {
+    let mut capture = Capture::new(SMALL);
+    let count = chance.within(60, 75);
+    let ids = stream_ids(chance, count);
+    let mut senders: Vec<Sender> = ids.iter().map(|&id| Sender::new(chance, id)).collect();
+    for sender in &mut senders {
+        sender.most_blocks = sender.most_blocks.min(1);
+    }
+    if chance.one_in(3) {
+        capture.remove(ids[0]);
+    }
+    for &id in &ids {
+        capture.admit(id);
+    }
+    for _ in 0..chance.within(20, 120) {
+        if capture.full() {
+            break;
+        }
+        let which = chance.below(count);
+        let at = arrival(chance);
+        match chance.below(6) {
+            0 => capture.admit(ids[which]),
+            1 | 2 => capture.remove(ids[which]),
+            3 => capture.admit(chance.next()),
+            _ => capture.frame(at, &senders[which].send(chance, at).bytes()),
+        }
+    }
+    capture
+}
+
+/// Record lengths and kinds at their edges.
+pub fn records(chance: &mut Chance) -> Capture {
+    let mut capture = Capture::new(SMALL);
+    let kinds = [0, 1, 1, 2, 2, 3, 3, 4, 5, 255, 256, 257, 512, 65_535];
+    for _ in 0..chance.within(10, 80) {
+        if capture.full() {
+            break;
+        }
+        let kind: u16 = chance.pick(&kinds);
+        let length = match chance.below(12) {
+            0 => 0,
+            1 => 1,
+            2 => 2,
+            3 => 3,
+            4 => 9,
+            5 => 11,
+            6 => chance.within(2, 70),
+            7 if chance.one_in(12) => 65_535,
+            _ => 10,
+        };
+        let mut counted = kind.to_le_bytes().to_vec();
+        counted.extend_from_slice(&(chance.below(6) as u64).to_be_bytes());
+        counted.resize(length, 0x55);
+        capture.record(&counted);
+        if chance.one_in(8) {
+            capture.frame(0, &Frame::sound(chance, 5).bytes());
+        }
+    }
+    capture
+}
+
+/// Every offset and arrival at the edges, from the timestamp or the payload.
+pub fn times(chance: &mut Chance) -> Capture {
+    let mut capture = Capture::new(SMALL);
+    capture.admit(3);
+    let mut frame = Frame::sound(chance, 3);
+    for _ in 0..150 {
+        let at = arrival(chance);
+        frame.sequence = frame.sequence.wrapping_add(1);
+        frame.tv = !chance.one_in(5);
+        frame.tu = chance.flip();
+        frame.sph = chance.one_in(3);
+        frame.dbs = chance.pick(&[1, 2, 6]);
+        let blocks = if chance.one_in(4) { 0 } else { chance.within(1, 3) };
+        frame.timestamp = chance.next() as u32;
+        frame.carry(chance.bytes(blocks * block_size(frame.dbs)));
+        if chance.one_in(8) {
+            // A stamp as if times were plain numbers.
+            frame.stamp(at as u32);
+        } else {
+            frame.stamp(stamp(at, offset(chance)));
+        }
+        capture.frame(at, &frame.bytes());
+        frame.dbc = frame.dbc.wrapping_add(blocks as u8);
+    }
+    capture
+}
+
+/// Block sizes and counts: DBS 0 whole and broken, over 256 blocks, none.
+pub fn blocks(chance: &mut Chance) -> Capture {
+    let mut capture = Capture::new(SMALL);
+    capture.admit(u64::MAX);
+    let mut frame = Frame::sound(chance, u64::MAX);
+    for _ in 0..120 {
+        if capture.full() {
+            break;
+        }
+        let (dbs, payload) = match chance.below(10) {
+            0 => (0, chance.bytes(1024)),
+            1 => (0, vec![]),
+            2 => (0, vec![1; chance.pick(&[1, 4, 1020, 1023, 1025, 1028, 1468])]),
+            3 => (1, vec![2; 4 * chance.pick(&[367, 366, 257, 256, 255])]),
+            4 => (1, vec![]),
+            5 => (chance.pick(&[2, 3, 7]), vec![3; 4 * chance.within(1, 24)]),
+            6 => (255, vec![4; chance.pick(&[1020, 1019, 1024, 0])]),
+            7 => (6, vec![5; 24 * 8 * chance.within(0, 7)]),
+            _ => (1, vec![6; 4 * chance.within(0, 9)]),
+        };
+        frame.sph = chance.one_in(4);
+        frame.dbs = dbs;
+        frame.carry(payload);
+        let size = block_size(frame.dbs);
+        capture.frame(arrival(chance), &frame.bytes());
+        // The next count by the rules, or what a wrong one would expect.
+        if frame.payload.len() % size == 0 || chance.one_in(3) {
+            frame.sequence = frame.sequence.wrapping_add(1);
+            frame.dbc = match chance.below(6) {
+                0 => frame.dbc.wrapping_add(1),
+                1 => frame.dbc,
+                _ => frame.dbc.wrapping_add((frame.payload.len() / size) as u8),
+            };
+        }
+    }
+    capture
+}

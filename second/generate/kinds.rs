@@ -1,0 +1,35 @@
+//! Which kind of capture each index stands for.
+
+use crate::captures::SMALL;
+use crate::chance::Chance;
+use crate::edges::{admissions, blocks, lengths, records, refusals, times};
+use crate::noise::{noise, turned_bits, turned_bytes};
+use crate::traffic::{cut, long, traffic};
+
+/// The capture of this index.
+pub fn capture(seed: u64, index: u64) -> Vec<u8> {
+    let chance = &mut Chance::new(seed, index);
+    if index == 0 {
+        return Vec::new();
+    }
+    if index % 100 == 50 {
+        return long(chance).bytes;
+    }
+    let capture = match index % 16 {
+        0 => refusals(chance),
+        1 => lengths(chance),
+        2 => admissions(chance),
+        3 => records(chance),
+        4 | 5 => times(chance),
+        6 | 7 => blocks(chance),
+        8 => noise(chance),
+        9 => turned_bits(chance),
+        10 => turned_bytes(chance),
+        11 => cut(chance),
+        _ => {
+            let records = chance.within(5, 190);
+            traffic(chance, SMALL, records)
+        }
+    };
+    capture.bytes
+}

@@ -1,0 +1,79 @@
+//! Generates captures of IEC 61883 streams over AVTP: sound, damaged and
+//! hostile ones, the same for the same seed.
+//!
+//! - `generate DIR SEED COUNT` writes COUNT captures DIR/000000.cap and on.
+//! - `generate --bench DIR` writes the captures that speed is measured on.
+//! - `generate --drip FILE PIECE` writes FILE to standard output, PIECE bytes at
+//!   a time, each piece flushed.
+//!
+//! The generator has this folder to itself: rustc looks for a root's modules
+//! beside the root, and these are none of the listing program's rooms. Nothing is
+//! shared with those: the generator knows the layouts by itself, and makes damaged
+//! frames too.
+//!
+//! Build: `build.sh OUTDIR`.
+
+mod captures;
+mod chance;
+mod damage;
+mod edges;
+mod frames;
+mod kinds;
+mod measuring;
+mod noise;
+mod senders;
+mod times;
+mod traffic;
+
+use std::fs;
+use std::io::{self, Write};
+use std::path::Path;
+use std::process::ExitCode;
+
+/// Writes the captures of a seed.
+fn write_captures(dir: &Path, seed: u64, count: u64) -> io::Result<()> {
+    fs::create_dir_all(dir)?;
+    for index in 0..count {
+        fs::write(dir.join(format!("{index:06}.cap")), kinds::capture(seed, index))?;
+    }
+    Ok(())
+}
+
+/// Writes a file to standard output in small pieces.
+fn drip(file: &Path, piece: usize) -> io::Result<()> {
+    let mut out = io::stdout().lock();
+    for piece in fs::read(file)?.chunks(piece.max(1)) {
+        out.write_all(piece)?;
+        out.flush()?;
+        std::thread::yield_now();
+    }
+    Ok(())
+}
+
+const USAGE: &str = "usage: generate DIR SEED COUNT
+       generate --bench DIR
+       generate --drip FILE PIECE";
+
+fn main() -> ExitCode {
+    let words: Vec<String> = std::env::args().skip(1).collect();
+    let words: Vec<&str> = words.iter().map(String::as_str).collect();
+    let done = match words[..] {
+        ["--bench", dir] => measuring::bench_captures(Path::new(dir)),
+        ["--drip", file, piece] => match piece.parse() {
+            Ok(piece) => drip(Path::new(file), piece),
+            Err(_) => Err(io::Error::other(USAGE)),
+        },
+        [dir, seed, count] => match (seed.parse(), count.parse()) {
+            (Ok(seed), Ok(count)) => write_captures(Path::new(dir), seed, count),
+            _ => Err(io::Error::other(USAGE)),
+        },
+        _ => Err(io::Error::other(USAGE)),
+    };
+    match done {
+        Ok(()) => ExitCode::SUCCESS,
+        Err(error) => {
+            eprintln!("generate: {error}");
+            ExitCode::FAILURE
+        }
+    }
+}

@@ -1,0 +1,44 @@
+//! Times of arrival, offsets and stamps.
+
+use crate::chance::Chance;
+
+/// An arrival near one of the places where 32 or 64 bits wrap, or any.
+pub fn arrival(chance: &mut Chance) -> u64 {
+    let near = match chance.below(8) {
+        0 => 0,
+        1 => 1 << 31,
+        2 => 1 << 32,
+        3 => chance.next() << 32,
+        4 => chance.next() << 31,
+        5 => (1u64 << 31).wrapping_neg(),
+        6 => (1u64 << 32).wrapping_neg(),
+        _ => return chance.next(),
+    };
+    let by = chance.pick(&[0, 0, 1, 1, 2, 16, 1000, 2_000_000]);
+    if chance.flip() {
+        u64::wrapping_add(near, by)
+    } else {
+        u64::wrapping_sub(near, by)
+    }
+}
+
+/// An offset from −2^31 to 2^31 − 1, often at an edge.
+pub fn offset(chance: &mut Chance) -> i32 {
+    match chance.below(14) {
+        0 => i32::MIN,
+        1 => i32::MIN + 1,
+        2 => i32::MAX,
+        3 => i32::MAX - 1,
+        4 => -1,
+        5 => 0,
+        6 => 1,
+        7 => chance.pick(&[-16, 16, -1000, 1000]),
+        8 | 9 => chance.next() as i32,
+        _ => 2_000_000 - chance.below(125_000) as i32,
+    }
+}
+
+/// The stamp that lies `offset` from `arrival`.
+pub fn stamp(arrival: u64, offset: i32) -> u32 {
+    (arrival as u32).wrapping_add(offset as u32)
+}

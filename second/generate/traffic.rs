@@ -1,0 +1,135 @@
+//! Captures of senders that take turns, whole, cut or long.
+
+use crate::captures::{Capture, SMALL};
+use crate::chance::Chance;
+use crate::damage::spoiled;
+use crate::frames::Frame;
+use crate::senders::{stream_count, stream_ids, Sender};
+use crate::times::arrival;
+
+/// Puts a whole frame of a sender in, now and then lost, repeated or damaged.
+fn send_with_trouble(chance: &mut Chance, capture: &mut Capture, sender: &mut Sender, at: u64) {
+    match chance.below(24) {
+        // Lost frames: the sender moves on, nothing is put in.
+        0 => {
+            for _ in 0..chance.pick(&[1, 1, 2, 3, 255, 256, 257]) {
+                sender.send(chance, at);
+            }
+        }
+        // Lost numbers only.
+        1 => sender.sequence = sender.sequence.wrapping_add(chance.pick(&[1, 2, 127, 254, 255])),
+        2 => sender.dbc = sender.dbc.wrapping_add(chance.pick(&[1, 2, 8, 128, 255])),
+        3 => sender.frame.mr = !sender.frame.mr,
+        4 => sender.choose_format(chance),
+        // A repeated frame.
+        5 => {
+            let frame = sender.send(chance, at).bytes();
+            capture.frame(at, &frame);
+            return capture.frame(at.wrapping_add(1), &frame);
+        }
+        // A damaged frame, after which the sender moves on or sends it anew.
+        6 | 7 => {
+            let (sequence, dbc) = (sender.sequence, sender.dbc);
+            let mut frame = sender.send(chance, at);
+            let number = chance.within(1, 14) as u8;
+            let bytes = spoiled(chance, &mut frame, number);
+            capture.frame(at, &bytes);
+            if chance.flip() {
+                (sender.sequence, sender.dbc) = (sequence, dbc);
+            }
+        }
+        // A frame that arrives out of its turn.
+        8 => {
+            let first = sender.send(chance, at).bytes();
+            let second = sender.send(chance, at).bytes();
+            capture.frame(at, &second);
+            return capture.frame(at, &first);
+        }
+        _ => {}
+    }
+    let frame = sender.send(chance, at);
+    capture.frame(at, &frame.bytes());
+}
+
+/// Puts in a record of the greatest length, or nearly.
+fn longest_record(chance: &mut Chance, capture: &mut Capture) {
+    let kind = chance.pick(&[1, 1, 2, 4]);
+    let body = vec![0x5A; 65_533 - chance.below(3)];
+    capture.kind(kind, &body);
+}
+
+/// Senders whose frames interleave, with all that goes wrong under way.
+pub fn traffic(chance: &mut Chance, limit: usize, records: usize) -> Capture {
+    let mut capture = Capture::new(limit);
+    let count = stream_count(chance);
+    let ids = stream_ids(chance, count);
+    let mut senders: Vec<Sender> = ids.iter().map(|&id| Sender::new(chance, id)).collect();
+    let busy = if chance.flip() { count } else { count.min(3) };
+    for &id in &ids {
+        if !chance.one_in(12) {
+            capture.admit(id);
+        }
+    }
+    let mut at = arrival(chance);
+    for _ in 0..records {
+        if capture.full() {
+            break;
+        }
+        at = match chance.below(30) {
+            0 => arrival(chance),
+            1 => at.wrapping_sub(chance.below(1_000_000) as u64),
+            _ => at.wrapping_add(chance.below(250_000) as u64),
+        };
+        match chance.below(40) {
+            _ if limit > SMALL && chance.one_in(100) => longest_record(chance, &mut capture),
+            0 => capture.admit(chance.pick(&ids)),
+            1 => capture.remove(chance.pick(&ids)),
+            2 => {
+                let id = chance.pick(&ids);
+                capture.remove(id);
+                capture.admit(id);
+            }
+            _ => {
+                let which = chance.below(busy);
+                send_with_trouble(chance, &mut capture, &mut senders[which], at);
+            }
+        }
+    }
+    capture
+}
+
+/// A capture that ends inside its last record, at every kind of place.
+pub fn cut(chance: &mut Chance) -> Capture {
+    let mut capture = traffic(chance, 5_000, 12);
+    match chance.below(8) {
+        0 => capture.admit(1),
+        1 => capture.remove(1),
+        2 => capture.record(&[]),
+        3 => capture.record(&[2]),
+        4 => capture.kind(9, &[0; 30]),
+        5 => capture.kind(1, &vec![0; 65_533]),
+        _ => {
+            let frame = Frame::sound(chance, 1);
+            capture.frame(0, &frame.bytes());
+        }
+    }
+    let whole = capture.bytes.len() - capture.last;
+    let kept = match chance.below(4) {
+        0 => whole - 1,
+        1 => chance.below(whole),
+        _ => chance.pick(&[1, 1, 2, 3, 4, 5, 11, 12, 13, 50, 60]).min(whole - 1),
+    };
+    capture.bytes.truncate(capture.last + kept);
+    capture
+}
+
+/// A long capture, with longest records among the others.
+pub fn long(chance: &mut Chance) -> Capture {
+    let size = chance.within(300_000, 3_000_000);
+    let mut capture = traffic(chance, size, usize::MAX);
+    if chance.flip() {
+        let cut = chance.within(1, 1000);
+        capture.bytes.truncate(capture.bytes.len() - cut);
+    }
+    capture
+}
