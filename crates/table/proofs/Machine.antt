@@ -86,7 +86,11 @@ machX x = EL.val X.the-type X′.the-laws x
 abbrev pub machY : Change → Val
 machY c = EL.val Y.the-type Y′.the-laws c
 
-pub receipt-field : fieldOf S′.mir 1 ≡ is (P′.mir, 48)
+-- the bytes of a record in a table, which are also those in front of the receipt in what is served
+abbrev pub recordSize : ℕ
+recordSize = 48
+
+pub receipt-field : fieldOf S′.mir 1 ≡ is (P′.mir, recordSize)
 receipt-field = refl
 
 pub after-field : fieldOf S′.mir 0 ≡ is (T′.mir, 0)
@@ -121,5 +125,5 @@ module _ {M : Type 1} {𝓤 : URA M} {H : Heap 𝓤} {A : Atoms 𝓤} {W : Given
     pub after-part : Part K W (‵ (fat fullShare S′.mir l 0 (machS s))) fullShare T′.mir l 0 (machR (s .after)) (λ u. ‵ (fat fullShare S′.mir l 0 (vstruct (vcons u (vcons (machP (s .receipt)) vnil)))))
     after-part = first t (S.struct .name) T′.mir P′.mir 0 fullShare l 0 (machR (s .after)) (machP (s .receipt)) after-field
 
-    pub receipt-part : Part K W (‵ (fat fullShare S′.mir l 0 (machS s))) fullShare P′.mir l 48 (machP (s .receipt)) (λ u. ‵ (fat fullShare S′.mir l 0 (vstruct (vcons (machR (s .after)) (vcons u vnil)))))
-    receipt-part = second t (S.struct .name) T′.mir P′.mir 48 fullShare l 0 (machR (s .after)) (machP (s .receipt)) receipt-field
+    pub receipt-part : Part K W (‵ (fat fullShare S′.mir l 0 (machS s))) fullShare P′.mir l recordSize (machP (s .receipt)) (λ u. ‵ (fat fullShare S′.mir l 0 (vstruct (vcons (machR (s .after)) (vcons u vnil)))))
+    receipt-part = second t (S.struct .name) T′.mir P′.mir recordSize fullShare l 0 (machR (s .after)) (machP (s .receipt)) receipt-field
