@@ -1,62 +1,74 @@
--- What stands at the front by the tests on the way, and the size of a record that does not end the reading. Assumes nothing.
-use Prim.Native.Nat.{ℕ, zero, suc, _+_, _-_, _≤_, _<_}
+-- What stands at the front by the tests on the way, and what each case of it says of the bytes. Assumes nothing.
+use Prim.Native.Nat.{ℕ, _+_, _≤_, _<_}
 use mathlib.Core.Path.{_≡_, refl}
 use mathlib.Core.Bool.{Bool, true, false, cond}
-use mathlib.Core.List.{List, []}
+use mathlib.Core.List.{List}
 use native.Mathlib.Omega.{arith}
-use borrow.Author.Tests.{lt-ltb, le-ltb, ne-eqb, ltb-false}
+use borrow.Author.Tests.{lt-ltb, le-ltb, ne-eqb, eqb-true, eqb-false, ltb-false}
 use lib.Dec.{eqb, ltb}
 use lib.ListN.{length}
 use Rattle.refusal.specs.Refusals.{firstOf}
-use Rattle.capture.specs.Sizes.{Sized, RecordSizes}
-use Rattle.capture.specs.Records.{Front, ended, skipped, lengthOf, kindOf, sizeOf, bodyOf, frameOf, wrongLength, unknownKind, frontBy, entryOf}
+use Rattle.capture.specs.Sizes.{RecordSizes}
+use Rattle.capture.specs.Records.{Held, refused, end, cut, whole, lengthOf, kindOf, sizeOf, bodyOf, wrongLength, unknownKind, recordChecks, heldBy, frontBy, entryOf}
 
 -- a length n and a kind k were read, and something is left
 module _ (rest : List ℕ) {n k : ℕ} (some : length rest ≡ 0 → ⊥) (en : n ≡ lengthOf rest) (ek : k ≡ kindOf rest) where
-  pub cut : length rest < 2 + n → ended 41 ≡ entryOf rest
+  pub short : length rest < 2 + n → cut ≡ entryOf rest
   unfolding entryOf firstOf
-  cut h = rw (ne-eqb (length rest) 0 some, ← en, lt-ltb (length rest) (2 + n) h)
+  short h = rw (ne-eqb (length rest) 0 some, ← en, lt-ltb (length rest) (2 + n) h)
 
-  module _ (whole : 2 + n ≤ length rest) where
-    pub wrong : true ≡ wrongLength n k → skipped 42 (2 + n) ≡ entryOf rest
+  module _ (all : 2 + n ≤ length rest) where
+    pub wrong : true ≡ wrongLength n k → whole (2 + n) (refused 42) ≡ entryOf rest
     unfolding entryOf firstOf
-    wrong e = rw (ne-eqb (length rest) 0 some, ← en, ← ek, le-ltb (length rest) (2 + n) whole, ← e) (rw (← en))
+    wrong e = rw (ne-eqb (length rest) 0 some, ← en, ← ek, le-ltb (length rest) (2 + n) all, ← e)
 
     module _ (right : false ≡ wrongLength n k) where
-      pub unknown : true ≡ unknownKind k → skipped 43 (2 + n) ≡ entryOf rest
+      pub unknown : true ≡ unknownKind k → whole (2 + n) (refused 43) ≡ entryOf rest
       unfolding entryOf firstOf
-      unknown e = rw (ne-eqb (length rest) 0 some, ← en, ← ek, le-ltb (length rest) (2 + n) whole, ← right, ← e) (rw (← en))
+      unknown e = rw (ne-eqb (length rest) 0 some, ← en, ← ek, le-ltb (length rest) (2 + n) all, ← right, ← e)
 
-      pub known : false ≡ unknownKind k → bodyOf k (2 + n) rest ≡ entryOf rest
+      pub known : false ≡ unknownKind k → whole (2 + n) (bodyOf k rest) ≡ entryOf rest
       unfolding entryOf firstOf
-      known e = rw (ne-eqb (length rest) 0 some, ← en, ← ek, le-ltb (length rest) (2 + n) whole, ← right, ← e) (rw (← en, ← ek))
-
--- a record of under 12 bytes has no frame
-pub empty : (rest : List ℕ) (size : ℕ) → size < 12 → [] ≡ frameOf rest size
-unfolding frameOf
-empty rest size h = none (ltb (length rest) size) (let z : size - 12 ≡ 0 = omega arith in rw z)
-  where
-    none : (b : Bool) {bs : List ℕ} → [] ≡ bs → [] ≡ cond b [] bs
-    none true e = refl
-    none false e = e
+      known e = rw (ne-eqb (length rest) 0 some, ← en, ← ek, le-ltb (length rest) (2 + n) all, ← right, ← e)
 
 -- ---- for callers
 
-either : (P : Front → Type 0) (b : Bool) {x y : Front} → P x → P y → P (cond b x y)
-either P true p q = p
-either P false p q = q
+-- nothing stands at the front of no bytes only
+pub end-empty : (rest : List ℕ) → entryOf rest ≡ end → length rest ≡ 0
+unfolding entryOf
+end-empty rest e = go (eqb (length rest) 0) refl (firstOf (recordChecks rest)) e
+  where
+    not-end : (b : Bool) (size : ℕ) (held : Held) → cond b cut (whole size held) ≡ end → ⊥
+    not-end true size held e = let z : _≡_ {A = ℕ} 0 1 = cc in omega arith
+    not-end false size held e = let z : _≡_ {A = ℕ} 0 1 = cc in omega arith
 
-whole-sized : (rest : List ℕ) (number : ℕ) → sizeOf rest ≤ length rest → Sized rest (frontBy number rest)
-whole-sized rest zero h =
-    let k = kindOf rest in
-    let p : (2 ≤ sizeOf rest) × (sizeOf rest ≤ length rest) = (omega arith, h) in
-    either (Sized rest) (eqb k 1) p (either (Sized rest) (eqb k 2) p p)
-whole-sized rest (suc n) h = either (Sized rest) (eqb (suc n) 41) tt (omega arith, h)
+    go : (b : Bool) → eqb (length rest) 0 ≡ b → (n : ℕ) → cond b end (frontBy n rest) ≡ end → length rest ≡ 0
+    go true p n e = eqb-true (length rest) 0 p
+    go false p n e = absurd (not-end (eqb n 41) (sizeOf rest) (heldBy n rest) e)
 
-checked-sized : (rest : List ℕ) (short : Bool) (number : ℕ) → ltb (length rest) (sizeOf rest) ≡ short → Sized rest (frontBy (cond short 41 number) rest)
-checked-sized rest true number e = tt
-checked-sized rest false number e = whole-sized rest number (ltb-false (length rest) (sizeOf rest) e)
+-- a record is cut where something is left
+pub cut-some : (rest : List ℕ) → entryOf rest ≡ cut → length rest ≡ 0 → ⊥
+unfolding entryOf
+cut-some rest e = go (eqb (length rest) 0) refl e
+  where
+    go : (b : Bool) → eqb (length rest) 0 ≡ b → cond b end (frontBy (firstOf (recordChecks rest)) rest) ≡ cut → length rest ≡ 0 → ⊥
+    go true p e = let z : _≡_ {A = ℕ} 0 1 = cc in absurd (omega arith)
+    go false p e = eqb-false (length rest) 0 p
+
+-- a whole record is all there
+pub all-there : (rest : List ℕ) (size : ℕ) (held : Held) → entryOf rest ≡ whole size held → (size ≡ sizeOf rest) × (size ≤ length rest)
+unfolding entryOf firstOf
+all-there rest size held e = go (eqb (length rest) 0) (ltb (length rest) (sizeOf rest)) refl _ e
+  where
+    size-is : sizeOf rest ≤ length rest → (b : Bool) (h : Held) → cond b cut (whole (sizeOf rest) h) ≡ whole size held → (size ≡ sizeOf rest) × (size ≤ length rest)
+    size-is l true h e = let z : _≡_ {A = ℕ} 0 1 = cc in absurd (omega arith)
+    size-is l false h e = let z : size ≡ sizeOf rest = cc in (z, omega arith)
+
+    go : (none cut-off : Bool) → ltb (length rest) (sizeOf rest) ≡ cut-off → (n : ℕ) → cond none end (frontBy (cond cut-off 41 n) rest) ≡ whole size held
+        → (size ≡ sizeOf rest) × (size ≤ length rest)
+    go true cut-off p n e = let z : _≡_ {A = ℕ} 0 1 = cc in absurd (omega arith)
+    go false true p n e = let z : _≡_ {A = ℕ} 0 1 = cc in absurd (omega arith)
+    go false false p n e = size-is (ltb-false (length rest) (sizeOf rest) p) (eqb n 41) (heldBy n rest) e
 
 pub sized : RecordSizes
-unfolding entryOf firstOf
-sized rest = either (Sized rest) (eqb (length rest) 0) tt (checked-sized rest (ltb (length rest) (sizeOf rest)) _ refl)
+sized rest size held e = let p = all-there rest size held e in (omega arith, p .1)

@@ -1,3 +1,3 @@
 pub mod Fronts
 pub mod Parts
-pub mod Ends
+pub mod InChunks

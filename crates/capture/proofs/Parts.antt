@@ -1,19 +1,18 @@
 -- Bytes that come later change nothing of a record that is there whole. Assumes nothing.
-use Prim.Native.Nat.{ℕ, _+_, _-_, _≤_}
-use mathlib.Core.Path.{_≡_, refl, sym, subst, _∙_}
-use mathlib.Core.Bool.{Bool, true, false, cond, not, _&&_, _||_}
+use Prim.Native.Nat.{ℕ, _+_, _≤_}
+use mathlib.Core.Path.{_≡_, refl, sym, ap, subst, _∙_}
+use mathlib.Core.Bool.{Bool, true, false, not, _&&_, _||_}
 use mathlib.Core.List.{List, _++_}
 use mathlib.Core.Logic.{_⊎_, inl, inr, ⊎-elim}
 use native.Mathlib.Omega.{arith}
-use borrow.Author.Tests.{le-leb, le-ltb, eqb-true, eqb-false, ltb-true, ltb-false}
+use borrow.Author.Tests.{le-leb, eqb-true, ltb-false}
 use lib.Dec.{T, eqb, ltb}
 use lib.ListN.{length, drop, length-append, length-drop}
 use lib.Seq.{take-append-le, drop-append-le}
 use Rattle.wire.specs.Numbers.{part, numberOr0, littleEndianOr0}
-use Rattle.refusal.specs.Refusals.{firstOf}
-use Rattle.capture.specs.Records.{end, lengthOf, kindOf, sizeOf, bodyOf, frameOf, wrongLength, unknownKind, frontBy, entryOf}
-use Rattle.capture.specs.Parts.{Whole, ReadInParts}
-use Rattle.capture.proofs.Fronts.{wrong, unknown, known, empty}
+use Rattle.capture.specs.Records.{whole, lengthOf, kindOf, sizeOf, bodyOf, wrongLength, unknownKind, entryOf}
+use Rattle.capture.specs.Parts.{ReadInParts}
+use Rattle.capture.proofs.Fronts.{wrong, unknown, known, all-there, sized}
 
 never : {X : Type 0} → true ≡ false → X
 never e = absurd (subst T e tt)
@@ -66,19 +65,7 @@ wrong-same n k k′ false e f = rw (f (ltb-false n 2 e))
 
 -- ---- the record at the front
 
--- one that does not end the reading is all there
-all-there : (rest : List ℕ) → Whole (entryOf rest) → (length rest ≡ 0 → ⊥) × (sizeOf rest ≤ length rest)
-unfolding entryOf firstOf
-all-there rest w =
-    let tests = passed (eqb (length rest) 0) (ltb (length rest) (sizeOf rest)) _ w in
-    (eqb-false (length rest) 0 (tests .0), ltb-false (length rest) (sizeOf rest) (tests .1))
-  where
-    passed : (none cut : Bool) (number : ℕ) → Whole (cond none end (frontBy (cond cut 41 number) rest)) → (none ≡ false) × (cut ≡ false)
-    passed true cut number w = absurd w
-    passed false true number w = absurd w
-    passed false false number w = (refl, refl)
-
-module _ (rest later : List ℕ) (some : length rest ≡ 0 → ⊥) (whole : sizeOf rest ≤ length rest) where
+module _ (rest later : List ℕ) (some : length rest ≡ 0 → ⊥) (all : sizeOf rest ≤ length rest) where
   abbrev both : List ℕ
   both = rest ++ later
 
@@ -91,8 +78,8 @@ module _ (rest later : List ℕ) (some : length rest ≡ 0 → ⊥) (whole : siz
   some-more : length both ≡ 0 → ⊥
   some-more e = let l = length-append rest later in some (omega arith)
 
-  whole-more : 2 + n ≤ length both
-  whole-more = rw (length-append rest later) (omega arith)
+  all-more : 2 + n ≤ length both
+  all-more = rw (length-append rest later) (omega arith)
 
   length-same : n ≡ lengthOf both
   unfolding lengthOf
@@ -102,33 +89,21 @@ module _ (rest later : List ℕ) (some : length rest ≡ 0 → ⊥) (whole : siz
   unfolding kindOf
   kind-same h = sym (little-same 2 2 rest later (omega arith))
 
-  body-same : 10 ≤ n → bodyOf k (2 + n) both ≡ bodyOf k (2 + n) rest
+  body-same : 10 ≤ n → bodyOf k both ≡ bodyOf k rest
   body-same h = rw (little-same 4 8 rest later (omega arith), big-same 4 8 rest later (omega arith))
 
   by-checks : (w u : Bool) → wrongLength n k ≡ w → unknownKind k ≡ u → entryOf both ≡ entryOf rest
   by-checks true u ew eu =
       let same = wrong-same n k (kindOf both) (ltb n 2) refl (λ h. sym (kind-same h)) in
-      sym (wrong both some-more length-same refl whole-more (sym (same ∙ ew))) ∙ wrong rest some refl refl whole (sym ew)
+      sym (wrong both some-more length-same refl all-more (sym (same ∙ ew))) ∙ wrong rest some refl refl all (sym ew)
   by-checks false true ew eu =
-      sym (unknown both some-more length-same (kind-same (at-least-2 n k (ltb n 2) refl ew)) whole-more (sym ew) (sym eu))
-      ∙ unknown rest some refl refl whole (sym ew) (sym eu)
+      sym (unknown both some-more length-same (kind-same (at-least-2 n k (ltb n 2) refl ew)) all-more (sym ew) (sym eu))
+      ∙ unknown rest some refl refl all (sym ew) (sym eu)
   by-checks false false ew eu =
-      sym (known both some-more length-same (kind-same (at-least-2 n k (ltb n 2) refl ew)) whole-more (sym ew) (sym eu))
-      ∙ body-same (at-least-10 n k ew eu) ∙ known rest some refl refl whole (sym ew) (sym eu)
-
--- ---- its frame
-
-frame-same : (rest later : List ℕ) (size : ℕ) (short : Bool) → ltb size 12 ≡ short → size ≤ length rest → frameOf (rest ++ later) size ≡ frameOf rest size
-unfolding frameOf
-frame-same rest later size true e h = let l = ltb-true size 12 e in sym (empty (rest ++ later) size l) ∙ empty rest size l
-frame-same rest later size false e h =
-    let l : 12 ≤ size = ltb-false size 12 e in
-    rw (le-ltb (length (rest ++ later)) size (rw (length-append rest later) (omega arith)), le-ltb (length rest) size h)
-    (part-same 12 (size - 12) rest later (omega arith))
+      sym (known both some-more length-same (kind-same (at-least-2 n k (ltb n 2) refl ew)) all-more (sym ew) (sym eu))
+      ∙ ap (whole (2 + n)) (body-same (at-least-10 n k ew eu)) ∙ known rest some refl refl all (sym ew) (sym eu)
 
 pub read-in-parts : ReadInParts
-read-in-parts =
-    record {
-      front = λ rest later w. let p = all-there rest w in by-checks rest later (p .0) (p .1) _ _ refl refl;
-      frame = λ rest later size h. frame-same rest later size (ltb size 12) refl h;
-    }
+read-in-parts rest later size held e =
+    let p = sized rest size held e in
+    by-checks rest later (λ z. omega (arith, p .0, p .1)) (let l = all-there rest size held e in omega (arith, p .1)) _ _ refl refl ∙ e

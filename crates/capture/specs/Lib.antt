@@ -1,4 +1,6 @@
 pub mod Records
 pub mod Sizes
 pub mod Parts
-pub mod Marks
+pub mod Edges
+pub mod Walk
+pub mod InChunks

@@ -1,38 +1,48 @@
 -- A capture's records (document 01, Capture and listing), over the bytes that remain of it.
-use Prim.Native.Nat.{ℕ, zero, suc, _+_, _-_}
+use Prim.Native.Nat.{ℕ, _+_}
 use mathlib.Core.Bool.{Bool, cond, not, _&&_, _||_}
 use mathlib.Core.List.{List, [], _∷_}
 use lib.Dec.{eqb, ltb}
-use lib.ListN.{length}
-use Rattle.wire.specs.Numbers.{part, numberOr0, littleEndianOr0}
-use Rattle.refusal.specs.Refusals.{numberOf, Check, _answers_, firstOf, differs}
+use lib.ListN.{length, drop}
+use Rattle.wire.specs.Numbers.{numberOr0, littleEndianOr0}
+use Rattle.refusal.specs.Refusals.{numberOf, ifAccepted, Check, _answers_, firstOf, differs}
 use Rattle.capture.specs.declared.Entry.{Entry}
-use Rattle.capture.specs.declared.Entry.the-variants.{End, Cut, Refused, Frame, Admit, Remove}
+use Rattle.capture.specs.declared.Entry.the-variants.{End, Cut, Whole}
+use Rattle.capture.specs.declared.Content.{Content}
+use Rattle.capture.specs.declared.Content.the-variants.{Refused, Frame, Admit, Remove}
 
 -- ---- What stands at the front
 
--- A refusal has document 01's number. What does not end the reading has the size of the record, that is the place of the next one.
+-- what a whole record holds
+pub data Held : Type 0 where
+  -- a refusal, which has document 01's number
+  refused : ℕ → Held
+  -- a frame with its arrival time L
+  arrival : ℕ → Held
+  -- the id of a stream to admit, and to remove
+  admission : ℕ → Held
+  removal : ℕ → Held
+
+-- what stands at the front of the bytes that remain
 pub data Front : Type 0 where
   -- nothing is left
   end : Front
-  -- refused, and the reading ends
-  ended : ℕ → Front
-  -- refused, and skipped whole
-  skipped : ℕ → ℕ → Front
-  -- a frame with its arrival time L
-  arrival : ℕ → ℕ → Front
-  -- the id of a stream to admit, and to remove
-  admission : ℕ → ℕ → Front
-  removal : ℕ → ℕ → Front
+  -- 41: the capture ends inside the record
+  cut : Front
+  -- a record of this size, that is the place of the next one
+  whole : ℕ → Held → Front
 
 -- what each case of the answer says
-abbrev pub told : Entry → Front
-told End = end
-told Cut = ended 41
-told (Refused r size) = skipped (numberOf r) size
-told (Frame L size) = arrival L size
-told (Admit id size) = admission id size
-told (Remove id size) = removal id size
+abbrev pub heldOf : Content → Held
+heldOf (Refused r) = refused (numberOf r)
+heldOf (Frame L) = arrival L
+heldOf (Admit id) = admission id
+heldOf (Remove id) = removal id
+
+abbrev pub frontOf : Entry → Front
+frontOf End = end
+frontOf Cut = cut
+frontOf (Whole size content) = whole size (heldOf content)
 
 -- ---- Layout
 
@@ -47,15 +57,15 @@ abbrev pub sizeOf : List ℕ → ℕ
 sizeOf rest = 2 + lengthOf rest
 
 -- kind 1: eight-byte little-endian L, then a frame; kind 2 admits and kind 3 removes: eight id bytes in wire order
-abbrev pub bodyOf : ℕ → ℕ → List ℕ → Front
-bodyOf kind size rest =
-    cond (eqb kind 1) (arrival (littleEndianOr0 4 8 rest) size)
-    (cond (eqb kind 2) (admission (numberOr0 4 8 rest) size)
-    (removal (numberOr0 4 8 rest) size))
+abbrev pub bodyOf : ℕ → List ℕ → Held
+bodyOf kind rest =
+    cond (eqb kind 1) (arrival (littleEndianOr0 4 8 rest))
+    (cond (eqb kind 2) (admission (numberOr0 4 8 rest))
+    (removal (numberOr0 4 8 rest)))
 
--- the frame of a record of this size; no byte where not all of it is there
-unfoldable pub frameOf : List ℕ → ℕ → List ℕ
-frameOf rest size = cond (ltb (length rest) size) [] (part 12 (size - 12) rest)
+-- the frame in a record: what stands behind L, none where the record is shorter
+unfoldable pub frameIn : List ℕ → List ℕ
+frameIn bytes = drop 12 bytes
 
 -- ---- Numbers answered
 
@@ -73,13 +83,13 @@ recordChecks rest =
     ∷ unknownKind (kindOf rest) answers 43
     ∷ []
 
--- after 41 reading ends; a record answered 42 or above is skipped whole
-abbrev pub refusedBy : ℕ → ℕ → Front
-refusedBy number size = cond (eqb number 41) (ended number) (skipped number size)
+-- what a record holds by the number answered, 0 where there is none
+abbrev pub heldBy : ℕ → List ℕ → Held
+heldBy number rest = ifAccepted number (bodyOf (kindOf rest) rest) (refused number)
 
+-- after 41 reading ends; a record answered 42 or above is skipped whole
 abbrev pub frontBy : ℕ → List ℕ → Front
-frontBy zero rest = bodyOf (kindOf rest) (sizeOf rest) rest
-frontBy (suc n) rest = refusedBy (suc n) (sizeOf rest)
+frontBy number rest = cond (eqb number 41) cut (whole (sizeOf rest) (heldBy number rest))
 
 unfoldable pub entryOf : List ℕ → Front
 entryOf rest = cond (eqb (length rest) 0) end (frontBy (firstOf (recordChecks rest)) rest)

@@ -1,23 +1,31 @@
 // A capture's records, one at a time: what stands at the front of the bytes that remain of it.
 use refusal::Refusal;
 ghost use mathlib.Core.Path.{_≡_};
-ghost use Rattle.capture.specs.Records.{told, entryOf, wrongLength, unknownKind, bodyOf, frameOf};
+ghost use Prim.Native.Nat.{_+_, _<_};
+ghost use lib.ListN.{length};
+ghost use denote.Ref.{ptr};
+ghost use Rattle.capture.specs.Records.{heldOf, frontOf, entryOf, wrongLength, unknownKind, bodyOf, frameIn};
 ghost use Rattle.capture.specs.Sizes.{RecordSizes};
 ghost use Rattle.capture.specs.Parts.{ReadInParts};
-ghost use Rattle.capture.specs.Marks.{RecordMarks};
+ghost use Rattle.capture.specs.Edges.{RecordEdges};
+ghost use Rattle.capture.specs.InChunks.{WalkedInChunks};
 
-// Everything but `End` and `Cut` gives the size of the record, that is the place of the next one.
 pub enum Entry {
     // Nothing is left.
     End,
     // 41: the capture ends inside this record.
     Cut,
+    // The size is the place of the next record.
+    Whole { size: usize, content: Content },
+}
+
+pub enum Content {
     // 42 or 43: skipped whole.
-    Refused { refusal: Refusal, size: usize },
-    // The frame's bytes are what `frame_of` gives.
-    Frame { arrival_time: u64, size: usize },
-    Admit { id: u64, size: usize },
-    Remove { id: u64, size: usize },
+    Refused(Refusal),
+    // The frame's bytes are what `frame_in` gives of the record.
+    Frame { arrival_time: u64 },
+    Admit { id: u64 },
+    Remove { id: u64 },
 }
 
 // Is this length, of what follows in the record, under 2 or wrong for the kind?
@@ -42,25 +50,24 @@ fn unknown_kind(kind: u16) -> bool
     !((kind == 1) | (kind == 2) | (kind == 3))
 }
 
-// A sound record by its kind.
-fn body(capture: &[u8], kind: u16, size: usize) -> Entry
-    ensures { λ r. ⌜ told r ≡ bodyOf kind size (now (capture .entry)) ⌝ }
+// What a sound record holds, by its kind.
+fn body(capture: &[u8], kind: u16) -> Content
+    ensures { λ r. ⌜ heldOf r ≡ bodyOf kind (now (capture .entry)) ⌝ }
 {
     if kind == 1 {
-        return Entry::Frame {
+        return Content::Frame {
             arrival_time: wire::le64(capture, 4),
-            size,
         };
     }
     let id = wire::be64(capture, 4);
     if kind == 2 {
-        return Entry::Admit { id, size };
+        return Content::Admit { id };
     }
-    Entry::Remove { id, size }
+    Content::Remove { id }
 }
 
 pub fn next_record(capture: &[u8]) -> Entry
-    ensures { λ r. ⌜ told r ≡ entryOf (now (capture .entry)) ⌝ }
+    ensures { λ r. ⌜ frontOf r ≡ entryOf (now (capture .entry)) ⌝ }
 {
     if capture.len() == 0 {
         return Entry::End;
@@ -73,31 +80,27 @@ pub fn next_record(capture: &[u8]) -> Entry
         return Entry::Cut;
     }
     if wrong_length(length, kind) {
-        return Entry::Refused {
-            refusal: Refusal::RecordLength,
-            size,
-        };
+        let content = Content::Refused(Refusal::RecordLength);
+        return Entry::Whole { size, content };
     }
     if unknown_kind(kind) {
-        return Entry::Refused {
-            refusal: Refusal::RecordKind,
-            size,
-        };
+        let content = Content::Refused(Refusal::RecordKind);
+        return Entry::Whole { size, content };
     }
-    body(capture, kind, size)
+    let content = body(capture, kind);
+    Entry::Whole { size, content }
 }
 
-// The frame in a record of kind 1 of this size; empty where the capture has no such part.
-pub fn frame_of(capture: &[u8], size: usize) -> &[u8]
-    ensures { λ r. ⌜ now r ≡ frameOf (now (capture .entry)) size ⌝ }
+// The frame in a record of kind 1, the part of it behind its arrival time.
+pub fn frame_in(record: &[u8]) -> &[u8]
+    ensures { λ r. ⌜ now r ≡ frameIn (now («record» .entry)) ⌝ }
+    ensures { λ r. ⌜ ptr r .0 ≡ ptr («record» .entry) .0 ⌝ }
+    ensures { λ r. ⌜ (0 < length (now r) → ptr r .1 ≡ ptr («record» .entry) .1 + 12) ⌝ }
 {
-    if size < 12 {
-        return &capture[..0];
+    if record.len() < 12 {
+        return &record[..0];
     }
-    if size > capture.len() {
-        return &capture[..0];
-    }
-    &capture[12..size]
+    &record[12..]
 }
 
 // A loop over records ends, and stays within the capture.
@@ -111,6 +114,11 @@ fn read_in_parts()
 {}
 
 // The rules at their edges.
-fn record_marks()
-    ensures { λ _. ⌜ RecordMarks ⌝ }
+fn record_edges()
+    ensures { λ _. ⌜ RecordEdges ⌝ }
+{}
+
+// Going through a capture in any chunks is going through it whole.
+fn walked_in_chunks()
+    ensures { λ _. ⌜ WalkedInChunks ⌝ }
 {}

@@ -1,10 +1,11 @@
-use mathlib.Core.Path.{sym, _∙_}
+use Prim.Native.Nat.{_+_}
+use mathlib.Core.Path.{sym, ap, _∙_}
 use native.Mathlib.Omega.{arith}
 use borrow.Author.Needs.{needs}
 use borrow.Author.Tests.{eq-eqb}
 use denote.Ref.{now}
-use Rattle.capture.specs.Records.{lengthOf, kindOf, entryOf}
-use Rattle.capture.proofs.Fronts.{cut, wrong, unknown, known}
+use Rattle.capture.specs.Records.{whole, lengthOf, kindOf, entryOf}
+use Rattle.capture.proofs.Fronts.{short, wrong, unknown, known}
 use Rattle.capture.proofs.next_record.Statement.{statement}
 use Rattle.capture.proofs.next_record.Tie as tie
 
@@ -17,13 +18,13 @@ unfolding lengthOf kindOf
 returns-2 c =
     let read = c .before in
     let rest = now (read .before .before .before .before .args .capture) in
-    cut rest (read .before .before .if1 .left) (read .before .le16 .ensures) (read .le162 .ensures) (omega arith)
+    short rest (read .before .before .if1 .left) (read .before .le16 .ensures) (read .le162 .ensures) (omega arith)
 
 returns-3 : tie.Need-returns-3
 unfolding lengthOf kindOf
 returns-3 c =
-    let whole = c .before .before in
-    let read = whole .before in
+    let there = c .before .before in
+    let read = there .before in
     let rest = now (read .before .before .before .before .args .capture) in
     wrong rest (read .before .before .if1 .left) (read .before .le16 .ensures) (read .le162 .ensures) (omega arith)
     (sym (c .if3 .taken) ∙ c .before .wrong-length .ensures)
@@ -32,8 +33,8 @@ returns-4 : tie.Need-returns-4
 unfolding lengthOf kindOf
 returns-4 c =
     let right = c .before .before in
-    let whole = right .before .before in
-    let read = whole .before in
+    let there = right .before .before in
+    let read = there .before in
     let rest = now (read .before .before .before .before .args .capture) in
     unknown rest (read .before .before .if1 .left) (read .before .le16 .ensures) (read .le162 .ensures) (omega arith)
     (sym (right .if3 .left) ∙ right .before .wrong-length .ensures) (sym (c .if4 .taken) ∙ c .before .unknown-kind .ensures)
@@ -43,10 +44,10 @@ unfolding lengthOf kindOf
 returns-5 c =
     let unknown = c .before .before in
     let right = unknown .before in
-    let whole = right .before .before in
-    let read = whole .before in
+    let there = right .before .before in
+    let read = there .before in
     let rest = now (read .before .before .before .before .args .capture) in
-    c .body .ensures
+    ap (whole (2 + read .before .le16 .result)) (c .body .ensures)
     ∙ known rest (read .before .before .if1 .left) (read .before .le16 .ensures) (read .le162 .ensures) (omega arith)
     (sym (right .if3 .left) ∙ right .before .wrong-length .ensures) (sym (c .before .if4 .left) ∙ unknown .unknown-kind .ensures)
 

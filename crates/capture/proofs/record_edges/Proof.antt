@@ -1,12 +1,12 @@
 use mathlib.Core.Path.{refl}
 use Rattle.refusal.specs.Refusals.{firstOf}
 use Rattle.capture.specs.Records.{lengthOf, kindOf, wrongLength, unknownKind, entryOf}
-use Rattle.capture.proofs.record_marks.Statement.{statement}
-use Rattle.capture.proofs.record_marks.Tie as tie
+use Rattle.capture.proofs.record_edges.Statement.{statement}
+use Rattle.capture.proofs.record_edges.Tie as tie
 
 returns : tie.Need-returns
 unfolding firstOf lengthOf kindOf wrongLength unknownKind entryOf
 returns c = refl
 
-pub record-marks-spec : {M : Type 1} → statement M
-record-marks-spec = tie.close (tie.spec returns)
+pub record-edges-spec : {M : Type 1} → statement M
+record-edges-spec = tie.close (tie.spec returns)

@@ -1,0 +1,52 @@
+-- Going through the records of a capture with a state S. What a record makes of the state, and what is said of it, is a step: it is given the
+-- state, the record's bytes and what the record holds. A record that is cut is all that is left, and holds `refused 41`.
+use Prim.Native.Nat.{ℕ, zero, suc}
+use mathlib.Core.Bool.{Bool, cond}
+use mathlib.Core.List.{List, [], _∷_, _++_}
+use lib.ListN.{length, take, drop}
+use Rattle.capture.specs.Records.{Held, refused, Front, end, cut, whole, entryOf}
+
+-- ---- A whole capture
+
+module _ {O S : Type 0} (step : S → List ℕ → Held → O × S) where
+  -- what stands at the front of the bytes that remain, given the walk from the next record on
+  abbrev pub walkBy : (List ℕ → S → List O × S) → List ℕ → S → Front → List O × S
+  walkBy onward rest s end = ([], s)
+  walkBy onward rest s cut = (step s rest (refused 41) .0 ∷ [], step s rest (refused 41) .1)
+  walkBy onward rest s (whole size held) =
+      let a = step s (take size rest) held in
+      let b = onward (drop size rest) (a .1) in
+      (a .0 ∷ b .0, b .1)
+
+  -- at most k records
+  unfoldable pub walkFrom : ℕ → List ℕ → S → List O × S
+  walkFrom zero rest s = ([], s)
+  walkFrom (suc k) rest s = walkBy (walkFrom k) rest s (entryOf rest)
+
+  -- a capture has no more records than bytes
+  unfoldable pub walk : List ℕ → S → List O × S
+  walk capture s = walkFrom (length capture) capture s
+
+-- ---- A part of a capture: the whole records at the front of a chunk, while `ready` says of what has been said so far that there is room for
+-- more. What is left of the chunk waits for the bytes that come later.
+
+pub record Part (O S : Type 0) : Type 0 where
+  pub said : List O
+  pub rest : List ℕ
+  pub state : S
+
+module _ {O S : Type 0} (step : S → List ℕ → Held → O × S) where
+  abbrev pub partBy : (List O → List ℕ → S → Part O S) → List O → List ℕ → S → Front → Part O S
+  partBy onward said rest s end = record { said = said; rest = rest; state = s }
+  partBy onward said rest s cut = record { said = said; rest = rest; state = s }
+  partBy onward said rest s (whole size held) =
+      let a = step s (take size rest) held in
+      onward (said ++ (a .0 ∷ [])) (drop size rest) (a .1)
+
+  unfoldable pub partFrom : ℕ → (List O → Bool) → List O → List ℕ → S → Part O S
+  partFrom zero ready said rest s = record { said = said; rest = rest; state = s }
+  partFrom (suc k) ready said rest s =
+      cond (ready said) (partBy (partFrom k ready) said rest s (entryOf rest)) (record { said = said; rest = rest; state = s })
+
+  unfoldable pub part : (List O → Bool) → List ℕ → S → Part O S
+  part ready chunk s = partFrom (length chunk) ready [] chunk s
