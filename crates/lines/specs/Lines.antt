@@ -67,10 +67,10 @@ lineText n (frame flags timing) = decimal n ++ flagsText flags ++ timingText tim
 -- ---- The end of a listing
 
 -- Record numbers are 64 bits wide: 0 comes after 18,446,744,073,709,551,615.
-abbrev pub next : ℕ → ℕ
-next n = (n + 1) % 2 ^ 64
+abbrev pub nextNumber : ℕ → ℕ
+nextNumber n = (n + 1) % 2 ^ 64
 
 -- after n records: where the capture ends inside a record that record is listed and counted too, and then the last line
 unfoldable pub ending : Bool → ℕ → List ℕ
-ending true n = lineText (next n) (refused 41) ++ endLine (next n)
+ending true n = lineText (nextNumber n) (refused 41) ++ endLine (nextNumber n)
 ending false n = endLine n

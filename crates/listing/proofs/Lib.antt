@@ -1,6 +1,6 @@
-pub mod Bound
-pub mod InChunks
 pub mod Chunks
+pub mod Lines
+pub mod InChunks
 pub mod Obeying
 pub mod Callees
 pub mod Turns

@@ -1,186 +1,246 @@
 -- A chunk turn by turn: what is left from here gives what the whole gives. Assumes nothing.
-use Prim.Native.Nat.{ℕ, zero, suc, _+_, _-_, _≤_, _<_, _^_}
+use Prim.Native.Nat.{ℕ, suc, _+_, _-_, _≤_, _<_, _^_}
 use mathlib.Core.Path.{_≡_, refl, sym, ap, _∙_, subst}
 use mathlib.Core.Bool.{Bool, true, false, cond}
-use mathlib.Core.List.{List, [], _++_}
+use mathlib.Core.List.{List, [], _∷_, _++_}
 use native.Mathlib.Omega.{arith}
 use lib.Dec.{T}
-use lib.ListN.{length, drop, length-drop, length-append}
+use lib.ListN.{length, take, drop, length-drop, length-append}
 use lib.Seq.{sets, length-sets, drop-drop}
-use Rattle.capture.specs.Records.{Front, end, ended, skipped, arrival, admission, removal, entryOf, frameOf}
-use Rattle.capture.specs.Sizes.{Within, Sized}
+use Rattle.wire.specs.Numbers.{part as partAt}
+use Rattle.capture.specs.Records.{Held, Front, end, cut, whole, entryOf}
+use Rattle.capture.specs.Sizes.{Within}
+use Rattle.capture.specs.Walk.{Part, partBy, partFrom, part}
 use Rattle.capture.proofs.Fronts.{sized}
-use Rattle.table.specs.Table.{Table, admit, remove, receive}
-use Rattle.listing.specs.declared.chunk.Progress.{Progress}
-use Rattle.lines.specs.Lines.{Line, admitted, removed, refused, lineText}
-use Rattle.listing.specs.Listing.{changeLine, frameLine, stepBy, stepOf, next}
+use Rattle.capture.proofs.InChunks.{in-chunks as walked-in-chunks}
+use Rattle.table.specs.Table.{Table}
+use Rattle.lines.specs.Lines.{Line, nextNumber, lineText}
 use Rattle.lines.specs.Writing.{roomy}
-use Rattle.listing.specs.Chunks.{Run, stopped, turnBy, turn, turns, chunked, usedOf, ChunkListed}
-use Rattle.listing.specs.Private.{lineAfter, tableAfter, halted, passed, sizeAhead, putWhole, putNext}
 use Rattle.lines.proofs.Puts.{sets-append}
-use Rattle.table.proofs.Lengths.{length-admit, length-remove, length-receive}
+use Rattle.listing.specs.declared.chunk.Progress.{Progress}
+use Rattle.listing.specs.declared.chunk.Cursor.{Cursor}
+use Rattle.listing.specs.Listing.{Said, step, linesAfter, numberAfter}
+use Rattle.listing.specs.Chunks.{chunked, ChunkListed}
+use Rattle.listing.specs.Private.{sizeAhead, heldAhead, halted, passed, putWhole, putNext}
+use Rattle.listing.proofs.Lines.{lines-more, number-more}
+use Rattle.listing.proofs.Obeying.{length-after}
+
+-- a chunk under way: what has been said of it, the bytes that remain of it, the table, and whether there may be more
+pub record Run : Type 0 where
+  pub said : List Said
+  pub rest : List ℕ
+  pub table : Table
+  pub going : Bool
+
+abbrev stopped : Run → Run
+stopped r = record { said = r .said; rest = r .rest; table = r .table; going = false }
+
+abbrev stop : Run → Part Said Table
+stop r = record { said = r .said; rest = r .rest; state = r .table }
 
 module _ (chunk : List ℕ) (t : Table) (n : ℕ) (d : List ℕ) where
-  -- the progress of a run, and the output
+  -- the cursor of a run, what is answered at its end, and the output
+  abbrev pub cursorOf : Run → Cursor
+  cursorOf r = record { at = length chunk - length (r .rest); put = length (linesAfter n (r .said)); records = numberAfter n (r .said); going = r .going }
+
   abbrev pub progressOf : Run → Progress
-  progressOf r = record { at = usedOf chunk r; put = length (r .text); records = r .records; going = r .going }
+  progressOf r = record { at = length chunk - length (r .rest); put = length (linesAfter n (r .said)); records = numberAfter n (r .said) }
 
   abbrev pub outOf : Run → List ℕ
-  outOf r = sets d 0 (r .text)
+  outOf r = sets d 0 (linesAfter n (r .said))
 
   abbrev pub start : Run
-  start = record { rest = chunk; text = []; records = n; table = t; going = true }
+  start = record { said = []; rest = chunk; table = t; going = true }
+
+  abbrev ready : List Said → Bool
+  ready said = roomy (length d) (length (linesAfter n said))
+
+  -- what a run comes to, with at most k records more
+  abbrev inTurns : ℕ → Run → Part Said Table
+  inTurns k r = cond (r .going) (partFrom step k ready (r .said) (r .rest) (r .table)) (stop r)
 
   pub record Shape (k : ℕ) (r : Run) : Type 0 where
-    pub rest : r .rest ≡ drop (usedOf chunk r) chunk
+    pub rest : r .rest ≡ drop (length chunk - length (r .rest)) chunk
     pub within : length (r .rest) ≤ length chunk
     pub table : length (r .table) ≡ length t
     pub fuel : r .going ≡ true → length (r .rest) < k
-    pub records : r .records < 2 ^ 64
+    pub records : numberAfter n (r .said) < 2 ^ 64
 
   -- a run with k turns left
   pub record Under (k : ℕ) (r : Run) : Type 0 where
     pub shape : Shape k r
-    pub onward : turns k (length d) r ≡ chunked chunk t n (length d)
-    pub put : length (r .text) ≤ length d
+    pub onward : inTurns k r ≡ chunked chunk t n (length d)
+    pub put : length (linesAfter n (r .said)) ≤ length d
 
   pub starts : n < 2 ^ 64 → Under (suc (length chunk)) start
-  unfolding chunked
+  unfolding chunked part linesAfter numberAfter
   starts fits =
       record {
         shape = record { rest = ap (λ (k : ℕ). drop k chunk) none; within = omega arith; table = refl; fuel = λ _. omega arith; records = fits };
-        onward = refl;
+        onward = walked-in-chunks step .every-whole-record ready (suc (length chunk)) (length chunk) [] chunk t (omega arith) (omega arith);
         put = omega arith;
       }
     where
       none : 0 ≡ length chunk - length chunk
       none = omega arith
 
+  pub first-cursor : record { at = 0; put = 0; records = n; going = true } ≡ cursorOf start
+  unfolding linesAfter numberAfter
+  first-cursor = λ i. record { at = none i; put = 0; records = n; going = true }
+    where
+      none : 0 ≡ length chunk - length chunk
+      none = omega arith
+
   -- ---- the end
-  stands : (k : ℕ) (r : Run) → r .going ≡ false → r ≡ turns k (length d) r
-  unfolding turns
-  stands zero r e = refl
-  stands (suc k) r e = rw e
+  stands : (k : ℕ) (r : Run) → r .going ≡ false → stop r ≡ inTurns k r
+  stands k r e = rw e
 
   pub ends : (k : ℕ) (r : Run) → Under k r → r .going ≡ false → ChunkListed chunk t n d (progressOf r) (r .table) (outOf r)
   ends k r u e =
       record {
-        at = ap (usedOf chunk) whole;
-        put = ap (λ (x : Run). length (x .text)) whole;
-        records = ap (λ (x : Run). x .records) whole;
-        table = ap (λ (x : Run). x .table) whole;
-        out = ap outOf whole;
-        ended = e;
+        at = ap (λ (x : Part Said Table). length chunk - length (x .rest)) all;
+        put = ap (λ (x : Part Said Table). length (linesAfter n (x .said))) all;
+        records = ap (λ (x : Part Said Table). numberAfter n (x .said)) all;
+        table = ap (λ (x : Part Said Table). x .state) all;
+        out = ap (λ (x : Part Said Table). sets d 0 (linesAfter n (x .said))) all;
         at-within = omega arith;
         put-within = u .put;
       }
     where
-      whole : r ≡ chunked chunk t n (length d)
-      whole = stands k r e ∙ u .onward
+      all : stop r ≡ chunked chunk t n (length d)
+      all = stands k r e ∙ u .onward
 
   -- ---- one turn
+  abbrev turnBy : Front → Run → Run
+  turnBy end r = stopped r
+  turnBy cut r = stopped r
+  turnBy (whole size held) r =
+      let a = step (r .table) (take size (r .rest)) held in
+      record { said = r .said ++ (a .0 ∷ []); rest = drop size (r .rest); table = a .1; going = true }
+
   module _ (k : ℕ) (r : Run) (u : Shape (suc k) r) where
-    abbrev p : Progress
-    p = progressOf r
+    abbrev c : Cursor
+    c = cursorOf r
 
     abbrev after : Bool → Front → Run
-    after b f = cond b (turnBy (stepBy f (r .rest) (r .table)) r) (stopped r)
+    after b f = cond b (turnBy f r) (stopped r)
 
     abbrev ahead : Bool → Front → Front
     ahead b f = cond b f end
 
-    abbrev puts : Bool → Front → Line → Progress × List ℕ
-    puts b f line = putNext (ahead b f) (lineText (next (r .records)) line) p (outOf r)
+    abbrev textOf : Line → List ℕ
+    textOf line = lineText (nextNumber (numberAfter n (r .said))) line
+
+    -- what is said of the record, and the table afterwards
+    abbrev stepped : Front → Said × Table
+    stepped f = step (r .table) (take (sizeAhead f) (r .rest)) (heldAhead f)
 
     -- a turn: what is put, the table that is left and the size of the record are those of the run afterwards
-    record Turned (given : Progress × List ℕ) (left : Table) (size : ℕ) (then : Run) : Type 0 where
-      progress : given .0 ≡ progressOf then
+    record Turned (given : Cursor × List ℕ) (left : Table) (size : ℕ) (then : Run) : Type 0 where
+      cursor : given .0 ≡ cursorOf then
       out : given .1 ≡ outOf then
       table : left ≡ then .table
       shape : Shape k then
-      fits : p .at + size ≤ length chunk
-
-    halts : Shape k (stopped r)
-    halts = record { rest = u .rest; within = u .within; table = u .table; fuel = λ e. absurd (subst T (sym e) tt); records = u .records }
+      fits : c .at + size ≤ length chunk
 
     -- nothing is listed, and the run stops
-    stops : Turned (halted p, outOf r) (r .table) 0 (stopped r)
-    stops = record { progress = refl; out = refl; table = refl; shape = halts; fits = omega arith }
+    stops : Turned (halted c, outOf r) (r .table) 0 (stopped r)
+    stops =
+        record {
+          cursor = refl;
+          out = refl;
+          table = refl;
+          shape = record { rest = u .rest; within = u .within; table = u .table; fuel = λ e. absurd (subst T (sym e) tt); records = u .records };
+          fits = omega arith;
+        }
 
     -- a record that is whole
-    module _ (size : ℕ) (w : Within (r .rest) size) (line : Line) (z : Table) (same : length z ≡ length (r .table)) (roomy-here : roomy (length d) (length (r .text)) ≡ true) (on : r .going ≡ true) where
+    module _ (size : ℕ) (w : Within (r .rest) size) (x : Said) (z : Table) (same : length z ≡ length (r .table)) (roomy-here : ready (r .said) ≡ true) (on : r .going ≡ true) where
       abbrev text : List ℕ
-      text = lineText (next (r .records)) line
+      text = textOf (x .line)
 
       abbrev gone : Run
-      gone = record { rest = drop size (r .rest); text = r .text ++ text; records = next (r .records); table = z; going = true }
+      gone = record { said = r .said ++ (x ∷ []); rest = drop size (r .rest); table = z; going = true }
 
       left : length (drop size (r .rest)) ≡ length (r .rest) - size
       left = length-drop size (r .rest)
 
-      used : p .at + size ≡ usedOf chunk gone
+      used : c .at + size ≡ length chunk - length (gone .rest)
       used = omega (arith, left, w .0, w .1, u .within)
 
-      roomy-there : roomy (length (outOf r)) (p .put) ≡ true
-      roomy-there = ap (λ (m : ℕ). roomy m (length (r .text))) (length-sets d 0 (r .text)) ∙ roomy-here
+      more-text : linesAfter n (gone .said) ≡ linesAfter n (r .said) ++ text
+      more-text = lines-more n (r .said) x
 
-      put-is : putWhole size text p (outOf r) ≡ (passed size (length text) p, sets (outOf r) (p .put) text)
+      more-put : c .put + length text ≡ length (linesAfter n (gone .said))
+      more-put = sym (ap length more-text ∙ length-append (linesAfter n (r .said)) text)
+
+      put-is : putWhole size text c (outOf r) ≡ (passed size (length text) c, sets (outOf r) (c .put) text)
       unfolding putWhole
-      put-is = rw roomy-there
+      put-is = rw (ap (λ (m : ℕ). roomy m (c .put)) (length-sets d 0 (linesAfter n (r .said))) ∙ roomy-here)
 
-      whole-progress : putWhole size text p (outOf r) .0 ≡ progressOf gone
-      whole-progress = ap (λ (x : Progress × List ℕ). x .0) put-is ∙ (λ i. record { at = used i; put = sym (length-append (r .text) text) i; records = next (r .records); going = true })
+      whole-cursor : putWhole size text c (outOf r) .0 ≡ cursorOf gone
+      whole-cursor =
+          ap (λ (y : Cursor × List ℕ). y .0) put-is
+          ∙ (λ i. record { at = used i; put = more-put i; records = sym (number-more n (r .said) x) i; going = true })
 
-      whole-out : putWhole size text p (outOf r) .1 ≡ outOf gone
+      whole-out : putWhole size text c (outOf r) .1 ≡ outOf gone
       whole-out =
-          let here : length (r .text) ≡ 0 + length (r .text) = omega arith in
-          ap (λ (x : Progress × List ℕ). x .1) put-is ∙ ap (λ (m : ℕ). sets (outOf r) m text) here ∙ sym (sets-append (r .text) text d 0)
+          let here : c .put ≡ 0 + c .put = omega arith in
+          ap (λ (y : Cursor × List ℕ). y .1) put-is ∙ ap (λ (m : ℕ). sets (outOf r) m text) here
+          ∙ sym (sets-append (linesAfter n (r .said)) text d 0) ∙ ap (sets d 0) (sym more-text)
 
       whole-shape : Shape k gone
       whole-shape =
           record {
-            rest = ap (drop size) (u .rest) ∙ drop-drop size (p .at) chunk ∙ ap (λ (m : ℕ). drop m chunk) used;
+            rest = ap (drop size) (u .rest) ∙ drop-drop size (c .at) chunk ∙ ap (λ (m : ℕ). drop m chunk) used;
             within = omega (arith, left, u .within);
             table = same ∙ u .table;
             fuel = λ _. omega (arith, left, w .0, w .1, u .fuel on);
-            records = omega arith;
+            records = omega (arith, number-more n (r .said) x);
           }
 
-      passes : Turned (putWhole size text p (outOf r)) z size gone
-      passes = record { progress = whole-progress; out = whole-out; table = refl; shape = whole-shape; fits = omega (arith, w .1, u .within) }
+      passes : Turned (putWhole size text c (outOf r)) z size gone
+      passes = record { cursor = whole-cursor; out = whole-out; table = refl; shape = whole-shape; fits = omega (arith, w .1, u .within) }
 
-    turned : (b : Bool) → roomy (length d) (length (r .text)) ≡ b → (f : Front) → Sized (r .rest) f → r .going ≡ true
-        → Turned (puts b f (lineAfter (stepBy (ahead b f) (r .rest) (r .table)))) (tableAfter (r .table) (stepBy (ahead b f) (r .rest) (r .table))) (sizeAhead (ahead b f)) (after b f)
-    turned false e f s on = stops
-    turned true e end s on = stops
-    turned true e (ended m) s on = stops
-    turned true e (skipped m size) s on = passes size s (refused m) (r .table) refl e on
-    turned true e (arrival L size) s on =
-        let received = receive (r .table) (frameOf (r .rest) size) L in
-        passes size s (frameLine (received .0 .number) (received .0)) (received .1) (length-receive (r .table) (frameOf (r .rest) size) L) e on
-    turned true e (admission id size) s on = passes size s (changeLine (admit (r .table) id .0) admitted) (admit (r .table) id .1) (length-admit (r .table) id) e on
-    turned true e (removal id size) s on = passes size s (changeLine (remove (r .table) id .0) removed) (remove (r .table) id .1) (length-remove (r .table) id) e on
+    turned : (b : Bool) → ready (r .said) ≡ b → (f : Front) → entryOf (r .rest) ≡ f → r .going ≡ true
+        → Turned (putNext (ahead b f) (textOf (stepped (ahead b f) .0 .line)) c (outOf r)) (stepped (ahead b f) .1) (sizeAhead (ahead b f)) (after b f)
+    turned false e f at-front on = stops
+    turned true e end at-front on = stops
+    turned true e cut at-front on = stops
+    turned true e (whole size held) at-front on =
+        let s = stepped (whole size held) in
+        passes size (sized (r .rest) size held at-front) (s .0) (s .1) (length-after (r .table) (take size (r .rest)) held) e on
 
-  picks : (b : Bool) → b ≡ true → (x y z : Run) → cond b x y ≡ z → x ≡ z
+    -- the run afterwards comes to the same
+    same-part : (b : Bool) (f : Front) → inTurns k (after b f) ≡ cond b (partBy step (partFrom step k ready) (r .said) (r .rest) (r .table) f) (stop r)
+    same-part false f = refl
+    same-part true end = refl
+    same-part true cut = refl
+    same-part true (whole size held) = refl
+
+  picks : (b : Bool) → b ≡ true → (x y z : Part Said Table) → cond b x y ≡ z → x ≡ z
   picks true e x y z h = h
   picks false e x y z h = absurd (subst T (sym e) tt)
 
-  -- what is at the front, given room, what is done with it, and what its line leaves are the turn
+  -- what is at the front, given room, its bytes, what it holds, what is done with it, and what its line leaves are the turn
   module _ (k : ℕ) (r : Run) (u : Under (suc k) r) (on : r .going ≡ true) where
-    abbrev here : Progress
-    here = progressOf r
+    abbrev here : Cursor
+    here = cursorOf r
 
     abbrev b : Bool
-    b = roomy (length d) (length (r .text))
+    b = ready (r .said)
 
     abbrev pub onward : Run
     onward = after k r (u .shape) b (entryOf (r .rest))
 
     abbrev front : Front
-    front = cond b (entryOf (r .rest)) end
+    front = ahead k r (u .shape) b (entryOf (r .rest))
 
-    is-turned : Turned k r (u .shape) (puts k r (u .shape) b (entryOf (r .rest)) (lineAfter (stepBy front (r .rest) (r .table)))) (tableAfter (r .table) (stepBy front (r .rest) (r .table))) (sizeAhead front) onward
-    is-turned = turned k r (u .shape) b refl (entryOf (r .rest)) (sized (r .rest)) on
+    abbrev says : Said × Table
+    says = stepped k r (u .shape) front
+
+    is-turned : Turned k r (u .shape) (putNext front (textOf k r (u .shape) (says .0 .line)) here (outOf r)) (says .1) (sizeAhead front) onward
+    is-turned = turned k r (u .shape) b refl (entryOf (r .rest)) refl on
 
     module _ (f : Front) (at-front : f ≡ cond b (entryOf (drop (here .at) chunk)) end) where
       is-front : f ≡ front
@@ -189,42 +249,49 @@ module _ (chunk : List ℕ) (t : Table) (n : ℕ) (d : List ℕ) where
       pub front-fits : here .at + sizeAhead f ≤ length chunk
       front-fits = subst (λ (x : Front). here .at + sizeAhead x ≤ length chunk) (sym is-front) (is-turned .fits)
 
-      pub same-table : tableAfter (r .table) (stepBy f (drop (here .at) chunk) (r .table)) ≡ onward .table
-      same-table = (λ i. tableAfter (r .table) (stepBy (is-front i) (sym (u .shape .rest) i) (r .table))) ∙ is-turned .table
+      module _ (bytes : List ℕ) (is-bytes : bytes ≡ partAt (here .at) (sizeAhead f) chunk) (held : Held) (is-held : held ≡ heldAhead f) where
+        is-step : step (r .table) bytes held ≡ says
+        is-step = (λ i. step (r .table) (is-bytes i) (is-held i)) ∙ (λ i. step (r .table) (take (sizeAhead (is-front i)) (sym (u .shape .rest) i)) (heldAhead (is-front i)))
 
-      module _ (line : Line) (says : line ≡ lineAfter (stepBy f (drop (here .at) chunk) (r .table))) where
-        abbrev given : Progress × List ℕ
-        given = putNext f (lineText (next (r .records)) line) here (outOf r)
+        pub same-table : step (r .table) bytes held .1 ≡ onward .table
+        same-table = ap (λ (x : Said × Table). x .1) is-step ∙ is-turned .table
 
-        is-line : line ≡ lineAfter (stepBy front (r .rest) (r .table))
-        is-line = says ∙ (λ i. lineAfter (stepBy (is-front i) (sym (u .shape .rest) i) (r .table)))
+        module _ (line : Line) (is-line : line ≡ step (r .table) bytes held .0 .line) where
+          abbrev given : Cursor × List ℕ
+          given = putNext f (textOf k r (u .shape) line) here (outOf r)
 
-        pub same-progress : given .0 ≡ progressOf onward
-        same-progress = (λ i. putNext (is-front i) (lineText (next (r .records)) (is-line i)) here (outOf r) .0) ∙ is-turned .progress
+          same-line : line ≡ says .0 .line
+          same-line = is-line ∙ ap (λ (x : Said × Table). x .0 .line) is-step
 
-        pub same-out : given .1 ≡ outOf onward
-        same-out = (λ i. putNext (is-front i) (lineText (next (r .records)) (is-line i)) here (outOf r) .1) ∙ is-turned .out
+          same-given : given ≡ putNext front (textOf k r (u .shape) (says .0 .line)) here (outOf r)
+          same-given = λ i. putNext (is-front i) (textOf k r (u .shape) (same-line i)) here (outOf r)
 
-        pub under : (here .put ≤ length (outOf r) → given .0 .put ≤ length (given .1)) → Under k onward
-        unfolding turns turn stepOf
-        under bound =
-            record {
-              shape = is-turned .shape;
-              onward = picks (r .going) on (turns k (length d) onward) r (chunked chunk t n (length d)) (u .onward);
-              put = omega (arith, put-in);
-            }
-          where
-            was : length (outOf r) ≡ length d
-            was = length-sets d 0 (r .text)
+          pub same-cursor : given .0 ≡ cursorOf onward
+          same-cursor = ap (λ (x : Cursor × List ℕ). x .0) same-given ∙ is-turned .cursor
 
-            is : length (outOf onward) ≡ length d
-            is = length-sets d 0 (onward .text)
+          pub same-out : given .1 ≡ outOf onward
+          same-out = ap (λ (x : Cursor × List ℕ). x .1) same-given ∙ is-turned .out
 
-            before : here .put ≤ length (outOf r)
-            before = omega (arith, was, u .put)
+          pub under : (here .put ≤ length (outOf r) → given .0 .put ≤ length (given .1)) → Under k onward
+          unfolding partFrom
+          under bound =
+              record {
+                shape = is-turned .shape;
+                onward = same-part k r (u .shape) b (entryOf (r .rest)) ∙ picks (r .going) on (partFrom step (suc k) ready (r .said) (r .rest) (r .table)) (stop r) (chunked chunk t n (length d)) (u .onward);
+                put = omega (arith, put-in);
+              }
+            where
+              was : length (outOf r) ≡ length d
+              was = length-sets d 0 (linesAfter n (r .said))
 
-            moved : progressOf onward .put ≤ length (outOf onward)
-            moved = subst (λ (x : Progress). x .put ≤ length (outOf onward)) same-progress (subst (λ (l : List ℕ). given .0 .put ≤ length l) same-out (bound before))
+              is : length (outOf onward) ≡ length d
+              is = length-sets d 0 (linesAfter n (onward .said))
 
-            put-in : length (onward .text) ≤ length d
-            put-in = omega (arith, is, moved)
+              before : here .put ≤ length (outOf r)
+              before = omega (arith, was, u .put)
+
+              moved : cursorOf onward .put ≤ length (outOf onward)
+              moved = subst (λ (x : Cursor). x .put ≤ length (outOf onward)) same-cursor (subst (λ (l : List ℕ). given .0 .put ≤ length l) same-out (bound before))
+
+              put-in : length (linesAfter n (onward .said)) ≤ length d
+              put-in = omega (arith, is, moved)

@@ -1,11 +1,12 @@
 -- Document 01's whole listing: admit 1; a frame of stream 1 with L 1000, T 3000; a frame of stream 2; remove 1.
 use Prim.Native.Nat.{ℕ, _+_}
 use mathlib.Core.Path.{_≡_}
-use mathlib.Core.List.{List, [], _++_, reverse}
+use mathlib.Core.List.{List, [], _∷_, _++_, map, reverse}
+use mathlib.Core.Option.{none, some}
 use lib.ListN.{length, take}
 use Rattle.wire.specs.Numbers.{bytes}
 use Rattle.lines.specs.Text.{ascii}
-use Rattle.listing.specs.Listing.{listing}
+use Rattle.listing.specs.Listing.{Said, visit, listing}
 
 -- a sound frame of a stream, with an AVTP timestamp and no blocks (destination, source, VLAN tag, Ethertype; the AVTPDU's first four
 -- bytes, stream id, timestamp, gateway info, stream_data_length, tag and channel, the CIP header)
@@ -38,6 +39,8 @@ exampleListing =
 
 pub record WorkedExample : Type 0 where
   pub whole : listing exampleCapture ≡ exampleListing
+  -- the stream that each record is about
+  pub streams : map (λ (x : Said). x .stream) (visit exampleCapture .0) ≡ some 1 ∷ some 1 ∷ none ∷ some 1 ∷ []
   -- an empty capture lists the first and last line
   pub empty : listing [] ≡ ascii "avtp listing 1\nend records=0\n"
   -- a cut record is listed and counted too

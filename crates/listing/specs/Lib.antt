@@ -1,5 +1,4 @@
 pub mod Listing
-pub mod Bound
 pub mod Example
 pub mod Chunks
 pub mod InChunks

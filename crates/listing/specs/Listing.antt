@@ -1,64 +1,58 @@
 -- The whole listing of a capture (document 01, Capture and listing).
-use Prim.Native.Nat.{ℕ, zero, suc, _+_, _%_, _^_}
-use mathlib.Core.List.{List, _++_}
-use lib.ListN.{length, drop, replicate}
-use Rattle.capture.specs.Records.{Front, end, ended, skipped, arrival, admission, removal, entryOf, frameOf}
+use Prim.Native.Nat.{ℕ}
+use mathlib.Core.List.{List, [], _∷_, _++_}
+use mathlib.Core.Option.{Option, none, some}
+use lib.ListN.{replicate}
+use Rattle.refusal.specs.Refusals.{ifAccepted}
+use Rattle.capture.specs.Records.{Held, refused as damaged, arrival, admission, removal, frameIn}
+use Rattle.capture.specs.Walk.{walk}
 use Rattle.stream.specs.Records.{unused}
 use Rattle.stream.specs.Answers.{Answer}
 use Rattle.table.specs.Table.{Table, admit, remove, receive}
-use Rattle.lines.specs.Lines.{startLine, endLine, Line, admitted, removed, refused, frame, lineText}
+use Rattle.lines.specs.Lines.{startLine, endLine, Line, admitted, removed, refused, frame, nextNumber, lineText}
 
 -- ---- One record
 
+-- what is said of a record: its line, and the stream that it is about, none where a frame is refused or the record is damaged
+pub record Said : Type 0 where
+  pub stream : Option ℕ
+  pub line : Line
+
 -- admission and removal by the number answered
 abbrev pub changeLine : ℕ → Line → Line
-changeLine zero line = line
-changeLine (suc n) line = refused (suc n)
+changeLine number line = ifAccepted number line (refused number)
 
 -- a received frame by the number answered
 abbrev pub frameLine : ℕ → Answer → Line
-frameLine zero a = frame (a .flags) (a .timing)
-frameLine (suc n) a = refused (suc n)
+frameLine number a = ifAccepted number (frame (a .flags) (a .timing)) (refused number)
 
--- what reading one record comes to
-pub data Step : Type 0 where
-  -- nothing is left
-  done : Step
-  -- a line, and the reading ends
-  last : Line → Step
-  -- a line, the bytes that remain, and the table afterwards
-  more : Line → List ℕ → Table → Step
+abbrev pub frameStream : ℕ → Answer → Option ℕ
+frameStream number a = ifAccepted number (some (a .fields .header .stream .id)) none
 
-abbrev pub stepBy : Front → List ℕ → Table → Step
-stepBy end rest t = done
-stepBy (ended number) rest t = last (refused number)
-stepBy (skipped number size) rest t = more (refused number) (drop size rest) t
-stepBy (arrival L size) rest t =
-    let received = receive t (frameOf rest size) L in
-    more (frameLine (received .0 .number) (received .0)) (drop size rest) (received .1)
-stepBy (admission id size) rest t = more (changeLine (admit t id .0) admitted) (drop size rest) (admit t id .1)
-stepBy (removal id size) rest t = more (changeLine (remove t id .0) removed) (drop size rest) (remove t id .1)
-
-unfoldable pub stepOf : List ℕ → Table → Step
-stepOf rest t = stepBy (entryOf rest) rest t
+-- what is said of a record with these bytes, by what it holds, and the table afterwards
+abbrev pub step : Table → List ℕ → Held → Said × Table
+step t bytes (damaged number) = (record { stream = none; line = refused number }, t)
+step t bytes (arrival L) =
+    let received = receive t (frameIn bytes) L in
+    let a = received .0 in
+    (record { stream = frameStream (a .number) a; line = frameLine (a .number) a }, received .1)
+step t bytes (admission id) = (record { stream = some id; line = changeLine (admit t id .0) admitted }, admit t id .1)
+step t bytes (removal id) = (record { stream = some id; line = changeLine (remove t id .0) removed }, remove t id .1)
 
 -- ---- All of them
 
--- Each record has one line and is counted. Record numbers are 64 bits wide: 0 comes after 18,446,744,073,709,551,615.
-abbrev pub next : ℕ → ℕ
-next n = (n + 1) % 2 ^ 64
+-- a capture is read with a table of 64 records, all unused at first: what is said of each record, and the table at the end
+unfoldable pub visit : List ℕ → List Said × Table
+visit capture = walk step capture (replicate 64 unused)
 
--- the text from a step on, after n records, given the text from the next record on
-abbrev pub textFrom : (List ℕ → Table → ℕ → List ℕ) → ℕ → Step → List ℕ
-textFrom onward n done = endLine n
-textFrom onward n (last line) = lineText (next n) line ++ endLine (next n)
-textFrom onward n (more line rest t) = lineText (next n) line ++ onward rest t (next n)
+-- each record has one line and is counted: the text of their lines, numbered on from n, and the number of the last
+unfoldable pub linesAfter : ℕ → List Said → List ℕ
+linesAfter n [] = []
+linesAfter n (x ∷ xs) = lineText (nextNumber n) (x .line) ++ linesAfter (nextNumber n) xs
 
--- the text of the bytes that remain, in which there are at most k records
-unfoldable pub listedFrom : ℕ → List ℕ → Table → ℕ → List ℕ
-listedFrom zero rest t n = endLine n
-listedFrom (suc k) rest t n = textFrom (listedFrom k) n (stepOf rest t)
+unfoldable pub numberAfter : ℕ → List Said → ℕ
+numberAfter n [] = n
+numberAfter n (x ∷ xs) = numberAfter (nextNumber n) xs
 
--- a capture is read with a table of 64 records, all unused at first, and has no more records than bytes
 unfoldable pub listing : List ℕ → List ℕ
-listing capture = startLine ++ listedFrom (length capture) capture (replicate 64 unused) 0
+listing capture = let said = visit capture .0 in startLine ++ (linesAfter 0 said ++ endLine (numberAfter 0 said))

@@ -1,55 +1,57 @@
 -- What the private calls answer. No public contract speaks of it.
-use Prim.Native.Nat.{ℕ, _+_}
+use Prim.Native.Nat.{ℕ, _+_, _≤_}
+use mathlib.Core.Path.{_≡_}
 use mathlib.Core.Bool.{true, false, cond}
 use mathlib.Core.List.{List}
 use lib.ListN.{length}
 use lib.Seq.{sets}
-use Rattle.capture.specs.Records.{Front, end, ended, skipped, arrival, admission, removal}
+use Rattle.capture.specs.Records.{Held, refused, Front, end, cut, whole}
 use Rattle.table.specs.Table.{Table}
-use Rattle.lines.specs.Lines.{Line, refused}
+use Rattle.lines.specs.declared.Outcome.{Outcome}
+use Rattle.lines.specs.Lines.{lineOf, nextNumber}
 use Rattle.lines.specs.Writing.{roomy}
-use Rattle.listing.specs.declared.chunk.Progress.{Progress}
-use Rattle.listing.specs.Listing.{Step, done, last, more, next}
+use Rattle.listing.specs.declared.chunk.Cursor.{Cursor}
+use Rattle.listing.specs.Listing.{step}
 
--- ---- One record
-
--- the line of a step, where nothing is left that of a record that is cut, and the table after it
-abbrev pub lineAfter : Step → Line
-lineAfter done = refused 41
-lineAfter (last line) = line
-lineAfter (more line rest t) = line
-
-abbrev pub tableAfter : Table → Step → Table
-tableAfter t done = t
-tableAfter t (last line) = t
-tableAfter t (more line rest u) = u
-
--- ---- What has been listed, and the output
-
-abbrev pub halted : Progress → Progress
-halted p = record { at = p .at; put = p .put; records = p .records; going = false }
-
--- past a record of so many bytes, with a line of so many
-abbrev pub passed : ℕ → ℕ → Progress → Progress
-passed size line p = record { at = p .at + size; put = p .put + line; records = next (p .records); going = true }
+-- ---- What stands at the front
 
 -- the bytes of a record that is whole
 abbrev pub sizeAhead : Front → ℕ
 sizeAhead end = 0
-sizeAhead (ended number) = 0
-sizeAhead (skipped number size) = size
-sizeAhead (arrival L size) = size
-sizeAhead (admission id size) = size
-sizeAhead (removal id size) = size
+sizeAhead cut = 0
+sizeAhead (whole size held) = size
 
--- the line of such a record in the output d, where it has its room
-unfoldable pub putWhole : ℕ → List ℕ → Progress → List ℕ → Progress × List ℕ
-putWhole size line p d = cond (roomy (length d) (p .put)) (passed size (length line) p, sets d (p .put) line) (halted p, d)
+-- what it holds; where none is whole, 41
+abbrev pub heldAhead : Front → Held
+heldAhead end = refused 41
+heldAhead cut = refused 41
+heldAhead (whole size held) = held
 
-abbrev pub putNext : Front → List ℕ → Progress → List ℕ → Progress × List ℕ
-putNext end line p d = (halted p, d)
-putNext (ended number) line p d = (halted p, d)
-putNext (skipped number size) line p d = putWhole size line p d
-putNext (arrival L size) line p d = putWhole size line p d
-putNext (admission id size) line p d = putWhole size line p d
-putNext (removal id size) line p d = putWhole size line p d
+-- what becomes of a record with these bytes that holds h: o is what is answered, and t′ the table afterwards
+pub record Obeyed (t : Table) (bytes : List ℕ) (h : Held) (o : Outcome) (t′ : Table) : Type 0 where
+  pub line : lineOf o ≡ step t bytes h .0 .line
+  pub table : t′ ≡ step t bytes h .1
+
+-- ---- What has been listed, and the output
+
+abbrev pub halted : Cursor → Cursor
+halted c = record { at = c .at; put = c .put; records = c .records; going = false }
+
+-- past a record of so many bytes, with a line of so many
+abbrev pub passed : ℕ → ℕ → Cursor → Cursor
+passed size line c = record { at = c .at + size; put = c .put + line; records = nextNumber (c .records); going = true }
+
+-- the line of a record that is whole in the output d, where it has its room
+unfoldable pub putWhole : ℕ → List ℕ → Cursor → List ℕ → Cursor × List ℕ
+putWhole size line c d = cond (roomy (length d) (c .put)) (passed size (length line) c, sets d (c .put) line) (halted c, d)
+
+abbrev pub putNext : Front → List ℕ → Cursor → List ℕ → Cursor × List ℕ
+putNext end line c d = (halted c, d)
+putNext cut line c d = (halted c, d)
+putNext (whole size held) line c d = putWhole size line c d
+
+-- a cursor c and an output d have become what is given: r is what is answered, and d′ the output afterwards
+pub record Becomes (given : Cursor × List ℕ) (c : Cursor) (d : List ℕ) (r : Cursor) (d′ : List ℕ) : Type 0 where
+  pub cursor : r ≡ given .0
+  pub out : d′ ≡ given .1
+  pub within : c .put ≤ length d → r .put ≤ length d′

@@ -1,4 +1,5 @@
 // A chunk of a capture at a time: the whole records at its front, as far as the output has room for their lines.
+use capture::Content;
 use capture::Entry;
 use lines::Outcome;
 use lines::Written;
@@ -7,17 +8,18 @@ use stream::Receipt;
 use stream::Record;
 use table::Change;
 ghost use mathlib.Core.Path.{_≡_};
-ghost use Prim.Native.Nat.{_+_, _<_, _≤_, _^_};
+ghost use Prim.Native.Nat.{_+_, _<_, _^_};
 ghost use mathlib.Core.Bool.{cond};
 ghost use mathlib.Core.List.{[]};
-ghost use lib.ListN.{length, drop};
-ghost use Rattle.capture.specs.Records.{told, end, entryOf, frameOf};
+ghost use lib.ListN.{drop};
+ghost use Rattle.wire.specs.Numbers.{part};
+ghost use Rattle.capture.specs.Records.{heldOf, frontOf, end, entryOf};
 ghost use Rattle.stream.specs.Answers.{receiptAnswer};
 ghost use Rattle.table.specs.Table.{changeNumber};
-ghost use Rattle.lines.specs.Lines.{admitted, removed, lineOf, lineText};
-ghost use Rattle.listing.specs.Listing.{changeLine, frameLine, stepBy, next};
+ghost use Rattle.lines.specs.Lines.{admitted, removed, lineOf, nextNumber, lineText};
 ghost use Rattle.lines.specs.Writing.{roomy};
-ghost use Rattle.listing.specs.Private.{halted, sizeAhead, putWhole, putNext, lineAfter, tableAfter};
+ghost use Rattle.listing.specs.Listing.{changeLine, frameLine};
+ghost use Rattle.listing.specs.Private.{sizeAhead, heldAhead, Obeyed, halted, putWhole, putNext, Becomes};
 ghost use Rattle.listing.specs.Chunks.{ChunkListed};
 
 // How far the chunk is listed.
@@ -28,12 +30,19 @@ pub struct Progress {
     pub put: usize,
     // The records listed in all.
     pub records: u64,
+}
+
+// The same on the way, and whether there may be more.
+pub(crate) struct Cursor {
+    pub(crate) at: usize,
+    pub(crate) put: usize,
+    pub(crate) records: u64,
     pub(crate) going: bool,
 }
 
 // The record at place `at`; none where its line has no room.
 pub(crate) fn front_of(chunk: &[u8], at: usize, len: usize, put: usize) -> Entry
-    ensures { λ r. ⌜ told r ≡ cond (roomy len put) (entryOf (drop at (now (chunk .entry)))) end ⌝ }
+    ensures { λ r. ⌜ frontOf r ≡ cond (roomy len put) (entryOf (drop at (now (chunk .entry)))) end ⌝ }
 {
     if !lines::roomy(len, put) {
         return Entry::End;
@@ -44,14 +53,40 @@ pub(crate) fn front_of(chunk: &[u8], at: usize, len: usize, put: usize) -> Entry
     capture::next_record(&chunk[at..])
 }
 
-// The frame in the record at place `at`.
-pub(crate) fn frame_at(chunk: &[u8], at: usize, size: usize) -> &[u8]
-    ensures { λ r. ⌜ now r ≡ frameOf (drop at (now (chunk .entry))) size ⌝ }
+// So many bytes at place `at`, as far as there are.
+fn bytes_at(chunk: &[u8], at: usize, size: usize) -> &[u8]
+    ensures { λ r. ⌜ now r ≡ part at size (now (chunk .entry)) ⌝ }
 {
     if at > chunk.len() {
         return &chunk[..0];
     }
-    capture::frame_of(&chunk[at..], size)
+    if size > chunk.len() - at {
+        return &chunk[at..];
+    }
+    let end = at + size;
+    &chunk[at..end]
+}
+
+// The bytes of the record at place `at`; none where none is whole.
+pub(crate) fn record_of(chunk: &[u8], at: usize, entry: Entry) -> &[u8]
+    ensures { λ r. ⌜ now r ≡ part at (sizeAhead (frontOf entry)) (now (chunk .entry)) ⌝ }
+{
+    match entry {
+        Entry::End => &chunk[..0],
+        Entry::Cut => &chunk[..0],
+        Entry::Whole { size, content: _ } => bytes_at(chunk, at, size),
+    }
+}
+
+// What it holds.
+pub(crate) fn content_of(entry: Entry) -> Content
+    ensures { λ r. ⌜ heldOf r ≡ heldAhead (frontOf entry) ⌝ }
+{
+    match entry {
+        Entry::End => Content::Refused(Refusal::RecordCut),
+        Entry::Cut => Content::Refused(Refusal::RecordCut),
+        Entry::Whole { size: _, content } => content,
+    }
 }
 
 pub(crate) fn outcome_of_receipt(receipt: Receipt) -> Outcome
@@ -85,27 +120,27 @@ pub(crate) fn outcome_of_removal(change: Change) -> Outcome
     }
 }
 
-fn stopped(p: Progress) -> Progress
-    ensures { λ r. ⌜ r ≡ halted p ⌝ }
+fn stopped(c: Cursor) -> Cursor
+    ensures { λ r. ⌜ r ≡ halted c ⌝ }
 {
-    Progress {
-        at: p.at,
-        put: p.put,
-        records: p.records,
+    Cursor {
+        at: c.at,
+        put: c.put,
+        records: c.records,
         going: false,
     }
 }
 
 // The line of a record of this size.
-fn put_whole(out: &mut [u8], p: Progress, size: usize, outcome: Outcome) -> Progress
-    requires { ⌜ p .at + size < 2 ^ 64 ⌝ }
-    ensures { λ r. ⌜ (r ≡ putWhole size (lineText (next (p .records)) (lineOf outcome)) p (now (out .entry)) .0) × ((now (out .exit) ≡ putWhole size (lineText (next (p .records)) (lineOf outcome)) p (now (out .entry)) .1) × (p .put ≤ length (now (out .entry)) → r .put ≤ length (now (out .exit)))) ⌝ }
+fn put_whole(out: &mut [u8], c: Cursor, size: usize, outcome: Outcome) -> Cursor
+    requires { ⌜ c .at + size < 2 ^ 64 ⌝ }
+    ensures { λ r. ⌜ Becomes (putWhole size (lineText (nextNumber (c .records)) (lineOf outcome)) c (now (out .entry))) c (now (out .entry)) r (now (out .exit)) ⌝ }
 {
-    let records = std::num::wrapping_add_u64(p.records, 1);
-    match lines::put_record(out, p.put, records, outcome) {
-        Written::NoRoom => stopped(p),
-        Written::UpTo(end) => Progress {
-            at: p.at + size,
+    let records = std::num::wrapping_add_u64(c.records, 1);
+    match lines::put_record(out, c.put, records, outcome) {
+        Written::NoRoom => stopped(c),
+        Written::UpTo(end) => Cursor {
+            at: c.at + size,
             put: end,
             records,
             going: true,
@@ -114,43 +149,35 @@ fn put_whole(out: &mut [u8], p: Progress, size: usize, outcome: Outcome) -> Prog
 }
 
 // The line of a record that is whole.
-pub(crate) fn put_next(out: &mut [u8], p: Progress, entry: Entry, outcome: Outcome) -> Progress
-    requires { ⌜ p .at + sizeAhead (told entry) < 2 ^ 64 ⌝ }
-    ensures { λ r. ⌜ (r ≡ putNext (told entry) (lineText (next (p .records)) (lineOf outcome)) p (now (out .entry)) .0) × ((now (out .exit) ≡ putNext (told entry) (lineText (next (p .records)) (lineOf outcome)) p (now (out .entry)) .1) × (p .put ≤ length (now (out .entry)) → r .put ≤ length (now (out .exit)))) ⌝ }
+pub(crate) fn put_next(out: &mut [u8], c: Cursor, entry: Entry, outcome: Outcome) -> Cursor
+    requires { ⌜ c .at + sizeAhead (frontOf entry) < 2 ^ 64 ⌝ }
+    ensures { λ r. ⌜ Becomes (putNext (frontOf entry) (lineText (nextNumber (c .records)) (lineOf outcome)) c (now (out .entry))) c (now (out .entry)) r (now (out .exit)) ⌝ }
 {
     match entry {
-        Entry::End => stopped(p),
-        Entry::Cut => stopped(p),
-        Entry::Refused { refusal: _, size } => put_whole(out, p, size, outcome),
-        Entry::Frame {
-            arrival_time: _,
-            size,
-        } => put_whole(out, p, size, outcome),
-        Entry::Admit { id: _, size } => put_whole(out, p, size, outcome),
-        Entry::Remove { id: _, size } => put_whole(out, p, size, outcome),
+        Entry::End => stopped(c),
+        Entry::Cut => stopped(c),
+        Entry::Whole { size, content: _ } => put_whole(out, c, size, outcome),
     }
 }
 
-// What becomes of the record at place `at`, and of the table.
-pub(crate) fn obey(table: &mut [Record], chunk: &[u8], at: usize, entry: Entry) -> Outcome
-    ensures { λ r. ⌜ (lineOf r ≡ lineAfter (stepBy (told entry) (drop at (now (chunk .entry))) (now (table .entry)))) × (now (table .exit) ≡ tableAfter (now (table .entry)) (stepBy (told entry) (drop at (now (chunk .entry))) (now (table .entry)))) ⌝ }
+// What becomes of a record, and of the table.
+pub(crate) fn obey(table: &mut [Record], record: &[u8], content: Content) -> Outcome
+    ensures { λ r. ⌜ Obeyed (now (table .entry)) (now («record» .entry)) (heldOf content) r (now (table .exit)) ⌝ }
 {
-    match entry {
-        Entry::End => Outcome::Refused(Refusal::RecordCut),
-        Entry::Cut => Outcome::Refused(Refusal::RecordCut),
-        Entry::Refused { refusal, size: _ } => Outcome::Refused(refusal),
-        Entry::Frame { arrival_time, size } => {
-            let frame = frame_at(chunk, at, size);
+    match content {
+        Content::Refused(refusal) => Outcome::Refused(refusal),
+        Content::Frame { arrival_time } => {
+            let frame = capture::frame_in(record);
             let receipt = table::receive(table, frame, arrival_time);
             let received = outcome_of_receipt(receipt);
             received
         }
-        Entry::Admit { id, size: _ } => {
+        Content::Admit { id } => {
             let change = table::admit(table, id);
             let admitted = outcome_of_admission(change);
             admitted
         }
-        Entry::Remove { id, size: _ } => {
+        Content::Remove { id } => {
             let change = table::remove(table, id);
             let removed = outcome_of_removal(change);
             removed
@@ -167,19 +194,25 @@ pub(crate) fn list_chunk(
 ) -> Progress
     ensures { λ r. ⌜ ChunkListed (now (chunk .entry)) (now (table .entry)) records (now (out .entry)) r (now (table .exit)) (now (out .exit)) ⌝ }
 {
-    let mut p = Progress {
+    let mut c = Cursor {
         at: 0,
         put: 0,
         records,
         going: true,
     };
-    while p.going {
-        let entry = front_of(chunk, p.at, out.len(), p.put);
-        let outcome = obey(table, chunk, p.at, entry);
-        let next = put_next(out, p, entry, outcome);
-        p = next;
+    while c.going {
+        let entry = front_of(chunk, c.at, out.len(), c.put);
+        let record = record_of(chunk, c.at, entry);
+        let content = content_of(entry);
+        let outcome = obey(table, record, content);
+        let next = put_next(out, c, entry, outcome);
+        c = next;
     }
-    p
+    Progress {
+        at: c.at,
+        put: c.put,
+        records: c.records,
+    }
 }
 
 // A chunk that is listed with a table by value.

@@ -1,14 +1,8 @@
 // The listing of a capture, a chunk at a time.
 pub mod chunk;
 
-ghost use Rattle.listing.specs.Bound.{EveryRecord};
 ghost use Rattle.listing.specs.InChunks.{InChunks};
 ghost use Rattle.listing.specs.Example.{WorkedExample};
-
-// The definition of a whole listing leaves no record out.
-fn every_record()
-    ensures { λ _. ⌜ EveryRecord ⌝ }
-{}
 
 // The rules list document 01's capture as it does.
 fn worked_example()

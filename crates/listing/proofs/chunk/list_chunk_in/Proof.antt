@@ -51,14 +51,15 @@ use Rattle.walks.proofs.Lending.{Mine}
 use Rattle.walks.proofs.Locals.{Slots, freed}
 use Rattle.listing.specs.declared.chunk.Progress.{Progress}
 use Rattle.listing.specs.declared.chunk.Listed.{Listed}
+use Rattle.listing.specs.Listing.{linesAfter}
 use Rattle.listing.specs.Chunks.{chunked, ChunkListed}
-use Rattle.listing.proofs.chunk.Progress as D
-use Rattle.listing.proofs.chunk.Progress.Laws as D′
+use Rattle.listing.proofs.chunk.Progress as G
+use Rattle.listing.proofs.chunk.Progress.Laws as G′
 use Rattle.listing.proofs.chunk.Listed as Q
 use Rattle.listing.proofs.chunk.Listed.Laws as Q′
 use Rattle.walks.proofs.Local.{Tokens, calls-with-array}
 use Rattle.listing.proofs.Callees.{Part, PartAlive}
-use Rattle.listing.proofs.Turning.{machD}
+use Rattle.listing.proofs.Turning.{machG}
 use Rattle.listing.proofs.chunk.list_chunk as listing-chunk
 use Rattle.listing.proofs.chunk.list_chunk.Symbol as list-chunk-def
 use Rattle.listing.proofs.chunk.list_chunk.Symbol.{name as #list-chunk}
@@ -93,10 +94,10 @@ abbrev listed : List Record → Progress → Listed
 listed zs r = record { table = zs; progress = r }
 
 abbrev machL : List Record → Progress → Val
-machL zs r = vstruct (vcons (machA zs) (vcons (machD r) vnil))
+machL zs r = vstruct (vcons (machA zs) (vcons (machG r) vnil))
 
-is-listed : (zs : List Record) (r : Progress) → Is (Array T.the-row 64) zs (machA zs ∷ []) → Is D.the-row r (machD r ∷ []) → Is Q.the-row (listed zs r) (machL zs r ∷ [])
-is-listed zs r p ok = ((machA zs ∷ [], (machD r ∷ [], tt)), (refl, ((p .0, ((p .1 .0 .0, length-map zs (T.the-field .into) ∙ p .1 .0 .1), each-tuple zs (p .0) (p .1 .1))), (ok, tt))))
+is-listed : (zs : List Record) (r : Progress) → Is (Array T.the-row 64) zs (machA zs ∷ []) → Is G.the-row r (machG r ∷ []) → Is Q.the-row (listed zs r) (machL zs r ∷ [])
+is-listed zs r p ok = ((machA zs ∷ [], (machG r ∷ [], tt)), (refl, ((p .0, ((p .1 .0 .0, length-map zs (T.the-field .into) ∙ p .1 .0 .1), each-tuple zs (p .0) (p .1 .1))), (ok, tt))))
 
 -- ---- the callee
 module _ {M : Type 1} (𝓤 : URA M) (H : Heap 𝓤) (A : Atoms 𝓤) (mem : Memory → SProp 𝓤) (run : Routine → Fun 𝓤) where
@@ -105,10 +106,10 @@ module _ {M : Type 1} (𝓤 : URA M) (H : Heap 𝓤) (A : Atoms 𝓤) (mem : Mem
 
   module _ (l : ℕ) (ys : List Record) (κ : Lft) (q : Share) (y : RefT (List ℕ)) (b o : ℕ) (ds : List ℕ) (n : ℕ) where
     abbrev table-after : List Record
-    table-after = chunked (y .now) ys n (length ds) .table
+    table-after = chunked (y .now) ys n (length ds) .state
 
     abbrev out-after : List ℕ
-    out-after = sets ds 0 (chunked (y .now) ys n (length ds) .text)
+    out-after = sets ds 0 (linesAfter n (chunked (y .now) ys n (length ds) .said))
 
     abbrev ListSaid : Progress → Type 0
     ListSaid r = ChunkListed (y .now) ys n ds r table-after out-after
@@ -133,22 +134,22 @@ module _ {M : Type 1} (𝓤 : URA M) (H : Heap 𝓤) (A : Atoms 𝓤) (mem : Mem
             nothing ! $ owned ! u64 (Is u64) (uint-makes 𝓤 H A W w64) n _ (refl, fits) $ fjoin ! $ move ! (4 ∷ 0 ∷ []) $ fjoin ! $ move ! (2 ∷ 0 ∷ []) $ fjoin ! $ move ! (2 ∷ 0 ∷ []) $ fjoin ! $ move ! (1 ∷ 0 ∷ []) $ join ! $ frame ! $ done !
 
         abbrev Back : Val → Progress → SProp 𝓤
-        Back v r = sep 𝓤 (mean 𝓤 H A (((Tokens 𝓤 ν₁ ν₂ ⊛ ‵ (finally T.the-row δ₁ table-after)) ⊛ ‵ (finally u8 δ₂ out-after)) ⊛ PartAlive 𝓤 H A mem run κ q y)) (fact 𝓤 (ListSaid r × Is D.the-row r (v ∷ [])))
+        Back v r = sep 𝓤 (mean 𝓤 H A (((Tokens 𝓤 ν₁ ν₂ ⊛ ‵ (finally T.the-row δ₁ table-after)) ⊛ ‵ (finally u8 δ₂ out-after)) ⊛ PartAlive 𝓤 H A mem run κ q y)) (fact 𝓤 (ListSaid r × Is G.the-row r (v ∷ [])))
 
         again-said : (r : Progress) (zs : List Record) (es : List ℕ) → ChunkListed (y .now) ys n ds r zs es → ListSaid r
-        again-said r zs es h = record { at = h .at; put = h .put; records = h .records; table = refl; out = refl; ended = h .ended; at-within = h .at-within; put-within = h .put-within }
+        again-said r zs es h = record { at = h .at; put = h .put; records = h .records; table = refl; out = refl; at-within = h .at-within; put-within = h .put-within }
 
         list-chunk-is : (v : Val) → ent 𝓤 (ListChunk .post to-list-chunk v) (H .⇛ (ex 𝓤 (Back v)))
         list-chunk-is v =
             qed W (raw (ListChunk .post to-list-chunk v) ∷ []) ∵ updating ! $
-            use1 W (later (some (λ (r : Progress). ((‵ (flft (ν₁ ∷ []) fullShare) ⊛ (‵ (flft κ q) ⊛ (‵ (flft (ν₂ ∷ []) fullShare) ⊛ ‵ ftrue))) ⊛ ‵ (D.the-row .own r (v ∷ []))) ⊛ some (λ (zs : List Record × (Unit {0} × (List ℕ × (Unit {0} × Unit {0})))). ‵ (lasts listing-chunk.ended (ν₁ ∷ [], (κ, (ν₂ ∷ [], tt))) args zs) ⊛ raw (fact 𝓤 (ChunkListed (y .now) ys n ds r (zs .0) (zs .1 .1 .0))))))) (id⊢ 𝓤 _) $ await ! tt $ pick ! (λ r.
+            use1 W (later (some (λ (r : Progress). ((‵ (flft (ν₁ ∷ []) fullShare) ⊛ (‵ (flft κ q) ⊛ (‵ (flft (ν₂ ∷ []) fullShare) ⊛ ‵ ftrue))) ⊛ ‵ (G.the-row .own r (v ∷ []))) ⊛ some (λ (zs : List Record × (Unit {0} × (List ℕ × (Unit {0} × Unit {0})))). ‵ (lasts listing-chunk.ended (ν₁ ∷ [], (κ, (ν₂ ∷ [], tt))) args zs) ⊛ raw (fact 𝓤 (ChunkListed (y .now) ys n ds r (zs .0) (zs .1 .1 .0))))))) (id⊢ 𝓤 _) $ await ! tt $ pick ! (λ r.
             split ! $ move ! (1 ∷ []) $ pick ! (λ zs. split ! $ move ! (1 ∷ []) $ heard ! (ChunkListed (y .now) ys n ds r (zs .0) (zs .1 .1 .0)) (λ h. fsplit ! $ fsplit ! $ rewrite ! 0 (λ (l : List Record). ‵ (finally T.the-row δ₁ l)) (h .table) refl $
             move ! (2 ∷ []) $ fsplit ! $ move ! (1 ∷ []) $ fsplit ! $ fsplit ! $ rewrite ! 0 (λ (l : List ℕ). ‵ (finally u8 δ₂ l)) (h .out) refl $
             -- [the output's last list; its length; …; the array's; its length; the tokens and the result]
-            move ! (6 ∷ []) $ split ! $ move ! (1 ∷ []) $ peeks ! D.the-row (Is D.the-row) (shows 𝓤 H A D.the-row) r (v ∷ []) (λ ok. drop ! $ split ! $ move ! (1 ∷ []) $ split ! $ move ! (1 ∷ []) $ split ! $
+            move ! (6 ∷ []) $ split ! $ move ! (1 ∷ []) $ peeks ! G.the-row (Is G.the-row) (shows 𝓤 H A G.the-row) r (v ∷ []) (λ ok. drop ! $ split ! $ move ! (1 ∷ []) $ split ! $ move ! (1 ∷ []) $ split ! $
             -- [ν₂'s token; true; the part's token; ν₁'s token; the output's last list; its length; …; the array's; its length]
             move ! (3 ∷ 0 ∷ 8 ∷ 4 ∷ 2 ∷ 1 ∷ []) $ join ! $ join ! $ join ! $ move ! (1 ∷ 2 ∷ 0 ∷ []) $ join ! $ move ! (1 ∷ 0 ∷ []) $ join ! $
-            at-once ! $ show ! (Back v) r $ frame ! $ by ! (factI 𝓤 (ListSaid r × Is D.the-row r (v ∷ [])) _ (again-said r (zs .0) (zs .1 .1 .0) h, ok))))))
+            at-once ! $ show ! (Back v) r $ frame ! $ by ! (factI 𝓤 (ListSaid r × Is G.the-row r (v ∷ [])) _ (again-said r (zs .0) (zs .1 .1 .0) h, ok))))))
 
 module _ {M : Type 1} (𝓤 : URA M) (H : Heap 𝓤) (A : Atoms 𝓤) (W : Given 𝓤 H A) (mem : Memory → SProp 𝓤) (run : Routine → Fun 𝓤) (κ κ₁ : Lft) (bounds : AllOutlive 2 (this.signature .outlives) (κ, (κ₁, tt))) (q q₁ : Share)
     (ys : List Record) (was : Is (Array T.the-row 64) ys (machA ys ∷ [])) (y : RefT (List ℕ)) (b o : ℕ) (γ : GName) (ds : List ℕ) (n : ℕ) (fits : n < 2 ^ 64) where
@@ -198,10 +199,10 @@ module _ {M : Type 1} (𝓤 : URA M) (H : Heap 𝓤) (A : Atoms 𝓤) (W : Given
   abbrev OutTok : Item 𝓤
   OutTok = ‵ (flft κ₁ q₁)
 
-  exits : (r : Progress) → Said r → Is (Array T.the-row 64) zs (machA zs ∷ []) → Is D.the-row r (machD r ∷ []) → ent 𝓤 (mean 𝓤 H A (((Ch ⊛ ChTok) ⊛ Out es) ⊛ OutTok)) (Post (machL zs r))
+  exits : (r : Progress) → Said r → Is (Array T.the-row 64) zs (machA zs ∷ []) → Is G.the-row r (machG r ∷ []) → ent 𝓤 (mean 𝓤 H A (((Ch ⊛ ChTok) ⊛ Out es) ⊛ OutTok)) (Post (machL zs r))
   exits r said now-is ok =
       qed W ((((Ch ⊛ ChTok) ⊛ Out es) ⊛ OutTok) ∷ []) ∵
-      suffices ! _ (ends-at 𝓤 H A this.ended stayed (this.clauses 𝓤 H A mem run) W (((κ, (κ₁, tt)), (q, (q₁, tt)), bounds, a, vals), tt) (machL zs r) (listed zs r) (tt, (tt, (es, (tt, tt)))) (tt, (tt, (length-sets ds 0 (chunked (y .now) ys n (length ds) .text), (tt, tt))))) $
+      suffices ! _ (ends-at 𝓤 H A this.ended stayed (this.clauses 𝓤 H A mem run) W (((κ, (κ₁, tt)), (q, (q₁, tt)), bounds, a, vals), tt) (machL zs r) (listed zs r) (tt, (tt, (es, (tt, tt)))) (tt, (tt, (length-sets ds 0 (linesAfter n (chunked (y .now) ys n (length ds) .said)), (tt, tt))))) $
       says ! said $ split ! $ split ! $ split ! $ move ! (1 ∷ []) $ split ! $
       -- [the chunk's token; true; what the chunk owns; what the output owns; its token]
       move ! (4 ∷ 1 ∷ []) $ join ! $ move ! (1 ∷ 0 ∷ []) $ join ! $ frame ! $
@@ -212,7 +213,7 @@ module _ {M : Type 1} (𝓤 : URA M) (H : Heap 𝓤) (A : Atoms 𝓤) (W : Given
   module _ (C : Calls 𝓤 H) (Λ : Loops 𝓤 H) (fm : FmC 𝓤 H (W .laws) C) (known : Triple 𝓤 (C #list-chunk) (ListChunk 𝓤 H A mem run)) (room₁ : Room u8 (length (y .now))) (room₂ : Room u8 (length ds)) where
     module _ (l₀ l₁ l₂ l₃ l₄ l₅ l₆ l₇ l₈ l₉ l₁₀ l₁₁ : ℕ) where
       abbrev E : Env 𝓤 H
-      E = (Q′.mir, l₀) ∷ (lone (Array T.the-row 64 .mir), l₁) ∷ (sliceTy (tyRef (named 0) imm (tyInt w8)), l₂) ∷ (sliceTy (tyRef (named 1) mut (tyInt w8)), l₃) ∷ (tyInt w64, l₄) ∷ (lone (Array T.the-row 64 .mir), l₅) ∷ (D′.mir, l₆) ∷ (tyRef erased mut (pointee (Array T.the-row 64 .written)), l₇) ∷ (sliceTy (tyRef erased mut recTy), l₈)
+      E = (Q′.mir, l₀) ∷ (lone (Array T.the-row 64 .mir), l₁) ∷ (sliceTy (tyRef (named 0) imm (tyInt w8)), l₂) ∷ (sliceTy (tyRef (named 1) mut (tyInt w8)), l₃) ∷ (tyInt w64, l₄) ∷ (lone (Array T.the-row 64 .mir), l₅) ∷ (G′.mir, l₆) ∷ (tyRef erased mut (pointee (Array T.the-row 64 .written)), l₇) ∷ (sliceTy (tyRef erased mut recTy), l₈)
           ∷ (tyRef erased mut (tyInt w8), l₉) ∷ (sliceTy (tyRef erased mut (tyInt w8)), l₁₀) ∷ (lone (Array T.the-row 64 .mir), l₁₁) ∷ []
 
       -- [what the chunk owns; its token; what the output owns; its token; _11: 4; _10: 6; _9: 8; _8: 10; _7: 12; _6: 14; _5: 16; _4: 18; _3: 20; _2: 22; _1: 24; _0: 26]
@@ -220,13 +221,13 @@ module _ {M : Type 1} (𝓤 : URA M) (H : Heap 𝓤) (A : Atoms 𝓤) (W : Given
       With l vs = Ch ∷ ChTok ∷ Out l ∷ OutTok ∷ Slots 𝓤 E (none ∷ is (machA ys) ∷ is sy ∷ is so ∷ is (vint w64 n) ∷ vs) []
 
       -- the array is an array again, in `_5`
-      finish : (r : Progress) → Said r → Is D.the-row r (machD r ∷ []) → Is (Array T.the-row 64) zs (machA zs ∷ [])
-          → Sq W (With es (is (machA zs) ∷ is (machD r) ∷ is (vptr l₅ 0) ∷ is (sliceVal (l₅, 0) (length ys)) ∷ is (vptr b o) ∷ is so ∷ [])) (runs C Λ E mir.t-7 (atRet E Post))
+      finish : (r : Progress) → Said r → Is G.the-row r (machG r ∷ []) → Is (Array T.the-row 64) zs (machA zs ∷ [])
+          → Sq W (With es (is (machA zs) ∷ is (machG r) ∷ is (vptr l₅ 0) ∷ is (sliceVal (l₅, 0) (length ys)) ∷ is (vptr b o) ∷ is so ∷ [])) (runs C Λ E mir.t-7 (atRet E Post))
       finish r said ok now-is =
           assigns ! (of-opd ! (load ! (from ! (stop !)) (look ! 16 refl))) (from ! (stop !)) (init ! 4 refl (array-lawful 𝓤 H A W T.the-row (LL.lawful T.the-type T′.the-laws 𝓤 H A W) 64 .typed zs _ now-is .0)) $
           assigns ! (agg ! (and-then ! (load ! (from ! (stop !)) (look ! 4 refl)) (and-then ! (load ! (from ! (stop !)) (look ! 14 refl)) (no-more !)))) (from ! (stop !)) (init ! 26 refl (LL.lawful Q.the-type Q′.the-laws 𝓤 H A W .typed (listed zs r) _ (is-listed zs r now-is ok) .0)) $
           returns ! (look ! 26 refl) $ join ! $ join ! $ join ! $
-          freed 𝓤 H A W E (is (machL zs r) ∷ is (machA ys) ∷ is sy ∷ is so ∷ is (vint w64 n) ∷ is (machA zs) ∷ is (machD r) ∷ is (vptr l₅ 0) ∷ is (sliceVal (l₅, 0) (length ys)) ∷ is (vptr b o) ∷ is so ∷ is (machA zs) ∷ []) (((Ch ⊛ ChTok) ⊛ Out es) ⊛ OutTok) (exits r said now-is ok)
+          freed 𝓤 H A W E (is (machL zs r) ∷ is (machA ys) ∷ is sy ∷ is so ∷ is (vint w64 n) ∷ is (machA zs) ∷ is (machG r) ∷ is (vptr l₅ 0) ∷ is (sliceVal (l₅, 0) (length ys)) ∷ is (vptr b o) ∷ is so ∷ is (machA zs) ∷ []) (((Ch ⊛ ChTok) ⊛ Out es) ⊛ OutTok) (exits r said now-is ok)
 
       body : Sq W (With ds []) (runs C Λ E mir.t-1 (atRet E Post))
       body =
@@ -239,11 +240,11 @@ module _ {M : Type 1} (𝓤 : URA M) (H : Heap 𝓤) (A : Atoms 𝓤) (W : Given
           use1 W (Ch ⊛ Ch) (shr-slice-copy 𝓤 H A W (named 0) κ u8 .twice y (sy ∷ [])) $ split ! $ move ! (2 ∷ 0 ∷ []) $ join ! $ move ! (16 ∷ 2 ∷ 3 ∷ 0 ∷ []) $
           -- [the array; what the output owns; its token; what goes to the callee beside them; what the chunk owns; …]
           calls-with-array ! fm (ListChunk 𝓤 H A mem run) known T.the-row tt 64 l₅ machA tells (array-makes 𝓤 H A W T.the-row (LL.makes T.the-type T′.the-plain 𝓤 H A) 64) ys len room was u8 (named 1) κ₁ q₁ γ b o ds room₂ (λ ν₁ δ₁ ν₂ δ₂. to-list-chunk 𝓤 H A mem run l₅ ys κ q y b o ds n ν₁ δ₁ ν₂ δ₂)
-          (ChTok ⊛ Ch) ChTok D.the-row Said machD (λ r v. LL.tells D.the-type D′.the-laws r (v ∷ [])) zs es (length-sets ds 0 (chunked (y .now) ys n (length ds) .text))
+          (ChTok ⊛ Ch) ChTok G.the-row Said machG (λ r v. LL.tells G.the-type G′.the-laws r (v ∷ [])) zs es (length-sets ds 0 (linesAfter n (chunked (y .now) ys n (length ds) .said)))
           (λ ν₁ δ₁ ν₂ δ₂. goes-list-chunk 𝓤 H A mem run l₅ ys κ q y b o ds n ν₁ δ₁ ν₂ δ₂ W fits) (λ ν₁ δ₁ ν₂ δ₂. list-chunk-is 𝓤 H A mem run l₅ ys κ q y b o ds n ν₁ δ₁ ν₂ δ₂ W)
           (λ ν₁ δ₁ ν₂ δ₂. (and-then ! (load ! (from ! (stop !)) (look ! 10 refl)) (and-then ! (load ! (from ! (stop !)) (look ! 21 refl)) (and-then ! (load ! (from ! (stop !)) (look ! 6 refl)) (and-then ! (load ! (from ! (stop !)) (look ! 17 refl)) (no-more !)))))) (λ r said ok now-is.
           -- [the array; what the output owns; its token; the chunk's token; what the chunk owns; …]
-          land ! (from ! (stop !)) (init ! 15 refl (LL.lawful D.the-type D′.the-laws 𝓤 H A W .typed r _ ok .0)) $ move ! (4 ∷ 3 ∷ 1 ∷ 2 ∷ 5 ∷ 6 ∷ 7 ∷ 8 ∷ 9 ∷ 10 ∷ 11 ∷ 12 ∷ 13 ∷ 14 ∷ 15 ∷ 16 ∷ 0 ∷ []) $ finish r said ok now-is)
+          land ! (from ! (stop !)) (init ! 15 refl (LL.lawful G.the-type G′.the-laws 𝓤 H A W .typed r _ ok .0)) $ move ! (4 ∷ 3 ∷ 1 ∷ 2 ∷ 5 ∷ 6 ∷ 7 ∷ 8 ∷ 9 ∷ 10 ∷ 11 ∷ 12 ∷ 13 ∷ 14 ∷ 15 ∷ 16 ∷ 0 ∷ []) $ finish r said ok now-is)
 
     walk : ent 𝓤 (onEntry 𝓤 H A this.signature (κ, (κ₁, tt)) (q, (q₁, tt)) a vals) (WpFn 𝓤 H C Λ code.function (machA ys ∷ sy ∷ so ∷ vint w64 n ∷ []) Post)
     walk =
