@@ -2,7 +2,7 @@
 use libc::STDERR_FILENO;
 use libc::STDIN_FILENO;
 use libc::STDOUT_FILENO;
-use lines::Written;
+use lines::Placed;
 use stream::Record;
 ghost use mathlib.Core.Path.{_≡_};
 ghost use Prim.Native.Nat.{_-_, _≤_};
@@ -148,15 +148,15 @@ fn hide_progress() {
 }
 
 // Text that was put into a buffer goes out.
-fn write_line(written: Written, out: &[u8]) -> bool {
-    match written {
-        Written::UpTo(end) => {
+fn write_line(placed: Placed, out: &[u8]) -> bool {
+    match placed {
+        Placed::UpTo(end) => {
             if end <= out.len() {
                 return write(&out[0..end]);
             }
             false
         }
-        Written::NoRoom => false,
+        Placed::NoRoom => false,
     }
 }
 

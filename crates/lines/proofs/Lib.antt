@@ -1,3 +1,2 @@
-pub mod Decimals
-pub mod Puts
-pub mod Signs
+pub mod Lengths
+pub mod Placing

@@ -1,4 +1,2 @@
-pub mod Text
 pub mod Lines
-pub mod Writing
-pub mod Private
+pub mod Placing

@@ -9,7 +9,7 @@ use Rattle.presentation.specs.declared.Timing.{Timing}
 use Rattle.stream.specs.declared.Flags.{Flags}
 use Rattle.lines.specs.declared.Outcome.{Outcome}
 use Rattle.lines.specs.declared.Outcome.the-variants.{Admitted, Removed, Refused, Frame}
-use Rattle.lines.specs.Text.{ascii, decimal, signed}
+use Rattle.text.specs.Text.{ascii, decimal, signed}
 
 -- ---- The first line and the last
 

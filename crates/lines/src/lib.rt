@@ -1,6 +1,5 @@
 // The lines of a listing, put into a buffer that the caller lends.
 mod parts;
-mod text;
 
 use presentation::Timing;
 use refusal::Refusal;
@@ -8,8 +7,8 @@ use stream::Flags;
 ghost use mathlib.Core.Path.{_≡_};
 ghost use Prim.Native.Nat.{_≤_};
 ghost use lib.ListN.{length};
-ghost use Rattle.lines.specs.Lines.{startLine, endLine, ending, lineOf, lineText};
-ghost use Rattle.lines.specs.Writing.{roomy, told, writing};
+ghost use Rattle.lines.specs.Lines.{startLine, ending, lineOf, lineText};
+ghost use Rattle.lines.specs.Placing.{roomy, placedLine, lineAt};
 
 // What became of a record of a capture.
 pub enum Outcome {
@@ -20,7 +19,7 @@ pub enum Outcome {
     Frame { flags: Flags, timing: Timing },
 }
 
-pub enum Written {
+pub enum Placed {
     // The line is in the buffer, and this is the place after it.
     UpTo(usize),
     // Fewer than `LINE_ROOM` bytes were left for it, and the buffer is as it was.
@@ -44,48 +43,37 @@ pub fn roomy(len: usize, at: usize) -> bool
 }
 
 // The first line.
-pub fn put_start(out: &mut [u8], at: usize) -> Written
-    ensures { λ r. ⌜ told r (now (out .exit)) ≡ writing (now (out .entry)) at startLine ⌝ }
-    ensures { λ r. ⌜ told r (now (out .exit)) .end ≤ length (now (out .exit)) ⌝ }
+pub fn put_start(out: &mut [u8], at: usize) -> Placed
+    ensures { λ r. ⌜ placedLine r (now (out .exit)) ≡ lineAt (now (out .entry)) at startLine ⌝ }
+    ensures { λ r. ⌜ placedLine r (now (out .exit)) .end ≤ length (now (out .exit)) ⌝ }
 {
     if !roomy(out.len(), at) {
-        return Written::NoRoom;
+        return Placed::NoRoom;
     }
-    Written::UpTo(text::put(out, at, b"avtp listing 1\n"))
+    Placed::UpTo(text::put(out, at, b"avtp listing 1\n"))
 }
 
 // The line of record number `n`.
-pub fn put_record(out: &mut [u8], at: usize, n: u64, outcome: Outcome) -> Written
-    ensures { λ r. ⌜ told r (now (out .exit)) ≡ writing (now (out .entry)) at (lineText n (lineOf outcome)) ⌝ }
-    ensures { λ r. ⌜ told r (now (out .exit)) .end ≤ length (now (out .exit)) ⌝ }
+pub fn put_record(out: &mut [u8], at: usize, n: u64, outcome: Outcome) -> Placed
+    ensures { λ r. ⌜ placedLine r (now (out .exit)) ≡ lineAt (now (out .entry)) at (lineText n (lineOf outcome)) ⌝ }
+    ensures { λ r. ⌜ placedLine r (now (out .exit)) .end ≤ length (now (out .exit)) ⌝ }
 {
     if !roomy(out.len(), at) {
-        return Written::NoRoom;
+        return Placed::NoRoom;
     }
-    Written::UpTo(parts::put_line(out, at, n, outcome))
+    Placed::UpTo(parts::put_line(out, at, n, outcome))
 }
 
 // The end of a listing, after so many records: the line of a record in which the capture ends, if it does, and the last line.
-pub fn put_ending(out: &mut [u8], at: usize, cut: bool, records: u64) -> Written
-    ensures { λ r. ⌜ told r (now (out .exit)) ≡ writing (now (out .entry)) at (ending cut records) ⌝ }
-    ensures { λ r. ⌜ told r (now (out .exit)) .end ≤ length (now (out .exit)) ⌝ }
+pub fn put_ending(out: &mut [u8], at: usize, cut: bool, records: u64) -> Placed
+    ensures { λ r. ⌜ placedLine r (now (out .exit)) ≡ lineAt (now (out .entry)) at (ending cut records) ⌝ }
+    ensures { λ r. ⌜ placedLine r (now (out .exit)) .end ≤ length (now (out .exit)) ⌝ }
 {
     if !roomy(out.len(), at) {
-        return Written::NoRoom;
+        return Placed::NoRoom;
     }
     if cut {
-        return Written::UpTo(parts::put_cut(out, at, records));
+        return Placed::UpTo(parts::put_cut(out, at, records));
     }
-    Written::UpTo(parts::put_last(out, at, records))
-}
-
-// The last line, with the number of records.
-pub fn put_end(out: &mut [u8], at: usize, records: u64) -> Written
-    ensures { λ r. ⌜ told r (now (out .exit)) ≡ writing (now (out .entry)) at (endLine records) ⌝ }
-    ensures { λ r. ⌜ told r (now (out .exit)) .end ≤ length (now (out .exit)) ⌝ }
-{
-    if !roomy(out.len(), at) {
-        return Written::NoRoom;
-    }
-    Written::UpTo(parts::put_last(out, at, records))
+    Placed::UpTo(parts::put_last(out, at, records))
 }

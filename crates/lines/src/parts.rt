@@ -1,90 +1,104 @@
-// The lines of a listing, put into a buffer with room for the longest.
+// The lines of a listing and what they are made of. Each call answers the place after its text, and all of it is there where that place
+// is in the buffer.
 use crate::Outcome;
-use crate::text;
+use presentation::Kind;
 use presentation::Timing;
 use refusal::Refusal;
 use stream::Flags;
-ghost use Prim.Native.Nat.{_+_, _≤_};
+ghost use Prim.Native.Nat.{_≤_};
 ghost use mathlib.Core.Bool.{true};
 ghost use mathlib.Core.List.{_++_};
 ghost use lib.ListN.{length};
 ghost use Rattle.refusal.specs.Refusals.{numberOf};
-ghost use Rattle.lines.specs.Text.{decimal};
-ghost use Rattle.lines.specs.Lines.{endLine, ending, refused, frame, flagsText, timingText, lineOf, lineText};
-ghost use Rattle.lines.specs.Writing.{lineRoom};
-ghost use Rattle.lines.specs.Private.{Put};
+ghost use Rattle.text.specs.Text.{ascii, decimal};
+ghost use Rattle.text.specs.InTurn.{PutInTurn};
+ghost use Rattle.lines.specs.Lines.{endLine, ending, refused, frame, flagWord, flagsText, kindWord, timingText, lineOf, lineText};
+ghost use Rattle.lines.specs.Placing.{lineRoom};
 
-fn put_flags(out: &mut [u8], at: usize, flags: Flags) -> usize
-    requires { ⌜ at + 47 ≤ length (now out) ⌝ }
-    ensures { λ r. ⌜ Put (now (out .entry)) at (flagsText flags) (now (out .exit)) r ⌝ }
-    ensures { λ r. ⌜ r ≤ at + 47 ⌝ }
+// A label, and the word where the flag is raised, else `ok`.
+fn put_flag(out: &mut [u8], at: usize, label: &[u8], raised: bool, word: &[u8]) -> usize
+    ensures { λ r. ⌜ PutInTurn (now (out .entry)) at (now (label .entry) ++ flagWord raised (now (word .entry))) (now (out .exit)) r ⌝ }
 {
-    let a = text::put_flag(out, at, b" frame seq=", flags.sequence, b"break");
-    let b = text::put_flag(out, a, b" dbc=", flags.block, b"break");
-    let c = text::put_flag(out, b, b" fmt=", flags.format, b"change");
-    text::put_flag(out, c, b" mr=", flags.mr, b"change")
+    let a = text::put(out, at, label);
+    if raised {
+        return text::put(out, a, word);
+    }
+    text::put(out, a, b"ok")
+}
+
+fn put_each_flag(out: &mut [u8], at: usize, flags: Flags) -> usize
+    ensures { λ r. ⌜ PutInTurn (now (out .entry)) at (flagsText flags) (now (out .exit)) r ⌝ }
+{
+    let a = put_flag(out, at, b" frame seq=", flags.sequence, b"break");
+    let b = put_flag(out, a, b" dbc=", flags.block, b"break");
+    let c = put_flag(out, b, b" fmt=", flags.format, b"change");
+    put_flag(out, c, b" mr=", flags.mr, b"change")
+}
+
+// The flags, at once where none is raised.
+fn put_flags(out: &mut [u8], at: usize, flags: Flags) -> usize
+    ensures { λ r. ⌜ PutInTurn (now (out .entry)) at (flagsText flags) (now (out .exit)) r ⌝ }
+{
+    if flags.sequence | flags.block | flags.format | flags.mr {
+        return put_each_flag(out, at, flags);
+    }
+    text::put(out, at, b" frame seq=ok dbc=ok fmt=ok mr=ok")
+}
+
+// The kind, with what stands before and after it.
+fn put_kind(out: &mut [u8], at: usize, kind: Kind) -> usize
+    ensures { λ r. ⌜ PutInTurn (now (out .entry)) at (ascii " time=" ++ kindWord kind ++ ascii " offset=") (now (out .exit)) r ⌝ }
+{
+    match kind {
+        Kind::None => text::put(out, at, b" time=none offset="),
+        Kind::Cut => text::put(out, at, b" time=cut offset="),
+        Kind::Outside => text::put(out, at, b" time=outside offset="),
+        Kind::Late => text::put(out, at, b" time=late offset="),
+        Kind::Ahead => text::put(out, at, b" time=ahead offset="),
+    }
 }
 
 // The end of a frame's line.
 fn put_timing(out: &mut [u8], at: usize, timing: Timing) -> usize
-    requires { ⌜ at + 43 ≤ length (now out) ⌝ }
-    ensures { λ r. ⌜ Put (now (out .entry)) at (timingText timing) (now (out .exit)) r ⌝ }
-    ensures { λ r. ⌜ r ≤ at + 43 ⌝ }
+    ensures { λ r. ⌜ PutInTurn (now (out .entry)) at (timingText timing) (now (out .exit)) r ⌝ }
+    ensures { λ _. ⌜ length (timingText timing) ≤ 43 ⌝ }
 {
     let kind = timing.kind;
-    let a = text::put(out, at, b" time=");
-    let b = text::put_kind(out, a, kind);
-    let c = text::put(out, b, b" offset=");
-    let d = text::put_signed(out, c, timing.offset);
-    text::put(out, d, b"\n")
+    let a = put_kind(out, at, kind);
+    let b = text::put_signed(out, a, timing.offset);
+    text::put(out, b, b"\n")
 }
 
 fn put_frame(out: &mut [u8], at: usize, n: u64, flags: Flags, timing: Timing) -> usize
-    requires { ⌜ at + 110 ≤ length (now out) ⌝ }
-    ensures { λ r. ⌜ Put (now (out .entry)) at (lineText n (frame flags timing)) (now (out .exit)) r ⌝ }
-    ensures { λ r. ⌜ r ≤ at + 110 ⌝ }
+    ensures { λ r. ⌜ PutInTurn (now (out .entry)) at (lineText n (frame flags timing)) (now (out .exit)) r ⌝ }
+    ensures { λ _. ⌜ length (lineText n (frame flags timing)) ≤ 110 ⌝ }
 {
-    let a = text::put_number(out, at, n);
+    let a = text::put_decimal(out, at, n);
     let b = put_flags(out, a, flags);
     put_timing(out, b, timing)
 }
 
 fn put_refused(out: &mut [u8], at: usize, n: u64, refusal: Refusal) -> usize
-    requires { ⌜ at + 50 ≤ length (now out) ⌝ }
-    ensures { λ r. ⌜ Put (now (out .entry)) at (lineText n (refused (numberOf refusal))) (now (out .exit)) r ⌝ }
-    ensures { λ r. ⌜ r ≤ at + 50 ⌝ }
+    ensures { λ r. ⌜ PutInTurn (now (out .entry)) at (lineText n (refused (numberOf refusal))) (now (out .exit)) r ⌝ }
+    ensures { λ _. ⌜ length (lineText n (refused (numberOf refusal))) ≤ 50 ⌝ }
 {
-    let a = text::put_number(out, at, n);
+    let a = text::put_decimal(out, at, n);
     let b = text::put(out, a, b" refused ");
-    let c = text::put_number(out, b, refusal::number(refusal) as u64);
+    let c = text::put_decimal(out, b, refusal::number(refusal) as u64);
     text::put(out, c, b"\n")
-}
-
-// The line of a record in which the capture ends, and the last line.
-pub(crate) fn put_cut(out: &mut [u8], at: usize, records: u64) -> usize
-    requires { ⌜ at + lineRoom ≤ length (now out) ⌝ }
-    ensures { λ r. ⌜ Put (now (out .entry)) at (ending true records) (now (out .exit)) r ⌝ }
-    ensures { λ r. ⌜ r ≤ at + lineRoom ⌝ }
-{
-    let n = std::num::wrapping_add_u64(records, 1);
-    let a = put_refused(out, at, n, Refusal::RecordCut);
-    put_last(out, a, n)
 }
 
 // A record's number and what comes after it.
 fn put_numbered(out: &mut [u8], at: usize, n: u64, rest: &[u8]) -> usize
-    requires { ⌜ at + 20 + length (now rest) ≤ length (now out) ⌝ }
-    ensures { λ r. ⌜ Put (now (out .entry)) at (decimal n ++ now (rest .entry)) (now (out .exit)) r ⌝ }
-    ensures { λ r. ⌜ r ≤ at + 20 + length (now (rest .entry)) ⌝ }
+    ensures { λ r. ⌜ PutInTurn (now (out .entry)) at (decimal n ++ now (rest .entry)) (now (out .exit)) r ⌝ }
 {
-    let a = text::put_number(out, at, n);
+    let a = text::put_decimal(out, at, n);
     text::put(out, a, rest)
 }
 
 pub(crate) fn put_line(out: &mut [u8], at: usize, n: u64, outcome: Outcome) -> usize
-    requires { ⌜ at + lineRoom ≤ length (now out) ⌝ }
-    ensures { λ r. ⌜ Put (now (out .entry)) at (lineText n (lineOf outcome)) (now (out .exit)) r ⌝ }
-    ensures { λ r. ⌜ r ≤ at + lineRoom ⌝ }
+    ensures { λ r. ⌜ PutInTurn (now (out .entry)) at (lineText n (lineOf outcome)) (now (out .exit)) r ⌝ }
+    ensures { λ _. ⌜ length (lineText n (lineOf outcome)) ≤ lineRoom ⌝ }
 {
     match outcome {
         Outcome::Admitted => put_numbered(out, at, n, b" admitted\n"),
@@ -95,11 +109,18 @@ pub(crate) fn put_line(out: &mut [u8], at: usize, n: u64, outcome: Outcome) -> u
 }
 
 pub(crate) fn put_last(out: &mut [u8], at: usize, records: u64) -> usize
-    requires { ⌜ at + 33 ≤ length (now out) ⌝ }
-    ensures { λ r. ⌜ Put (now (out .entry)) at (endLine records) (now (out .exit)) r ⌝ }
-    ensures { λ r. ⌜ r ≤ at + 33 ⌝ }
+    ensures { λ r. ⌜ PutInTurn (now (out .entry)) at (endLine records) (now (out .exit)) r ⌝ }
 {
     let a = text::put(out, at, b"end records=");
-    let b = text::put_number(out, a, records);
+    let b = text::put_decimal(out, a, records);
     text::put(out, b, b"\n")
+}
+
+// The line of a record in which the capture ends, and the last line.
+pub(crate) fn put_cut(out: &mut [u8], at: usize, records: u64) -> usize
+    ensures { λ r. ⌜ PutInTurn (now (out .entry)) at (ending true records) (now (out .exit)) r ⌝ }
+{
+    let n = std::num::wrapping_add_u64(records, 1);
+    let a = put_refused(out, at, n, Refusal::RecordCut);
+    put_last(out, a, n)
 }

@@ -56,7 +56,7 @@ use Rattle.lines.specs.declared.Outcome.{Outcome}
 use Rattle.lines.specs.Lines.{Line, lineOf}
 use Rattle.listing.specs.Listing.{changeLine}
 use Rattle.listing.specs.Private.{sizeAhead, heldAhead}
-use Rattle.lines.specs.Writing.{roomy}
+use Rattle.lines.specs.Placing.{roomy}
 use Rattle.lines.proofs.Outcome as O
 use Rattle.lines.proofs.Outcome.Laws as O′
 use Rattle.walks.proofs.Lent.{kept-said}

@@ -13,9 +13,9 @@ use Rattle.refusal.proofs.First.{positive}
 use Rattle.stream.specs.declared.Receipt.the-variants.{Refused}
 use Rattle.stream.specs.Answers.{refusedWith, receiptAnswer}
 use Rattle.capture.specs.Records.{end, entryOf}
-use Rattle.lines.specs.declared.Written.the-variants.{UpTo, NoRoom}
+use Rattle.lines.specs.declared.Placed.the-variants.{UpTo, NoRoom}
 use Rattle.lines.specs.Lines.{Line, refused, nextNumber}
-use Rattle.lines.specs.Writing.{roomy, Writing, writing, told as written}
+use Rattle.lines.specs.Placing.{roomy, LineAt, lineAt, placedLine}
 use Rattle.listing.specs.declared.chunk.Cursor.{Cursor}
 use Rattle.listing.specs.Listing.{changeLine, frameLine}
 use Rattle.listing.specs.Private.{halted, passed, putWhole}
@@ -58,26 +58,26 @@ module _ (d d′ line : List ℕ) (c : Cursor) (size : ℕ) where
   abbrev Is-put : Cursor → Bool → Type 0
   Is-put r b = (r ≡ gives b .0) × (d′ ≡ gives b .1)
 
-  abbrev wrote : Bool → Writing
+  abbrev wrote : Bool → LineAt
   wrote b = cond b (record { put = true; end = c .put + length line; buffer = sets d (c .put) line }) (record { put = false; end = 0; buffer = d })
 
-  none-by : (b : Bool) → written NoRoom d′ ≡ wrote b → Is-put (halted c) b × (d′ ≡ d)
-  none-by true e = absurd (subst T (sym (ap (λ (w : Writing). w .put) e)) tt)
-  none-by false e = ((refl, ap (λ (w : Writing). w .buffer) e), ap (λ (w : Writing). w .buffer) e)
+  none-by : (b : Bool) → placedLine NoRoom d′ ≡ wrote b → Is-put (halted c) b × (d′ ≡ d)
+  none-by true e = absurd (subst T (sym (ap (λ (w : LineAt). w .put) e)) tt)
+  none-by false e = ((refl, ap (λ (w : LineAt). w .buffer) e), ap (λ (w : LineAt). w .buffer) e)
 
-  put-by : (b : Bool) (up-to : ℕ) → written (UpTo up-to) d′ ≡ wrote b → Is-put (record { at = c .at + size; put = up-to; records = nextNumber (c .records); going = true }) b
-  put-by true up-to e = ((λ i. record { at = c .at + size; put = e i .end; records = nextNumber (c .records); going = true }), ap (λ (w : Writing). w .buffer) e)
-  put-by false up-to e = absurd (subst T (ap (λ (w : Writing). w .put) e) tt)
+  put-by : (b : Bool) (up-to : ℕ) → placedLine (UpTo up-to) d′ ≡ wrote b → Is-put (record { at = c .at + size; put = up-to; records = nextNumber (c .records); going = true }) b
+  put-by true up-to e = ((λ i. record { at = c .at + size; put = e i .end; records = nextNumber (c .records); going = true }), ap (λ (w : LineAt). w .buffer) e)
+  put-by false up-to e = absurd (subst T (ap (λ (w : LineAt). w .put) e) tt)
 
   abbrev Said : Cursor → Type 0
   Said r = (r ≡ putWhole size line c d .0) × (d′ ≡ putWhole size line c d .1)
 
-  pub none-put : written NoRoom d′ ≡ writing d (c .put) line → Said (halted c) × (d′ ≡ d)
-  unfolding writing putWhole
+  pub none-put : placedLine NoRoom d′ ≡ lineAt d (c .put) line → Said (halted c) × (d′ ≡ d)
+  unfolding lineAt putWhole
   none-put e = none-by (roomy (length d) (c .put)) e
 
-  pub line-put : (up-to : ℕ) → written (UpTo up-to) d′ ≡ writing d (c .put) line → Said (record { at = c .at + size; put = up-to; records = nextNumber (c .records); going = true })
-  unfolding writing putWhole
+  pub line-put : (up-to : ℕ) → placedLine (UpTo up-to) d′ ≡ lineAt d (c .put) line → Said (record { at = c .at + size; put = up-to; records = nextNumber (c .records); going = true })
+  unfolding lineAt putWhole
   line-put up-to e = put-by (roomy (length d) (c .put)) up-to e
 
 pub stays : (r c : Cursor) (d d′ : List ℕ) → r ≡ halted c → d′ ≡ d → c .put ≤ length d → r .put ≤ length d′

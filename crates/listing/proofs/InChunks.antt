@@ -14,7 +14,7 @@ use Rattle.capture.proofs.InChunks.{in-chunks as walked-in-chunks}
 use Rattle.stream.specs.Records.{unused}
 use Rattle.table.specs.Table.{Table}
 use Rattle.lines.specs.Lines.{startLine, endLine, ending}
-use Rattle.lines.specs.Writing.{roomy}
+use Rattle.lines.specs.Placing.{roomy}
 use Rattle.listing.specs.Listing.{Said, step, visit, linesAfter, numberAfter, listing}
 use Rattle.listing.specs.Chunks.{chunked}
 use Rattle.listing.specs.InChunks.{Chunk, joined, Run, unread, withChunk, withChunks, ListedAs, InChunks}

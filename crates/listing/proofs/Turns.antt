@@ -15,8 +15,8 @@ use Rattle.capture.proofs.Fronts.{sized}
 use Rattle.capture.proofs.InChunks.{in-chunks as walked-in-chunks}
 use Rattle.table.specs.Table.{Table}
 use Rattle.lines.specs.Lines.{Line, nextNumber, lineText}
-use Rattle.lines.specs.Writing.{roomy}
-use Rattle.lines.proofs.Puts.{sets-append}
+use Rattle.lines.specs.Placing.{roomy}
+use Rattle.text.proofs.Sets.{sets-append}
 use Rattle.listing.specs.declared.chunk.Progress.{Progress}
 use Rattle.listing.specs.declared.chunk.Cursor.{Cursor}
 use Rattle.listing.specs.Listing.{Said, step, linesAfter, numberAfter}

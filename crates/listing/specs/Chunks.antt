@@ -6,7 +6,7 @@ use lib.ListN.{length}
 use lib.Seq.{sets}
 use Rattle.capture.specs.Walk.{Part, part}
 use Rattle.table.specs.Table.{Table}
-use Rattle.lines.specs.Writing.{roomy}
+use Rattle.lines.specs.Placing.{roomy}
 use Rattle.listing.specs.declared.chunk.Progress.{Progress}
 use Rattle.listing.specs.Listing.{Said, step, linesAfter, numberAfter}
 

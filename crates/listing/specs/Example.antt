@@ -5,7 +5,7 @@ use mathlib.Core.List.{List, [], _∷_, _++_, map, reverse}
 use mathlib.Core.Option.{none, some}
 use lib.ListN.{length, take}
 use Rattle.wire.specs.Numbers.{bytes}
-use Rattle.lines.specs.Text.{ascii}
+use Rattle.text.specs.Text.{ascii}
 use Rattle.listing.specs.Listing.{Said, visit, listing}
 
 -- a sound frame of a stream, with an AVTP timestamp and no blocks (destination, source, VLAN tag, Ethertype; the AVTPDU's first four

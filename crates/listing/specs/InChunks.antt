@@ -9,7 +9,7 @@ use Rattle.capture.specs.InChunks.{InChunks as WalkInChunks}
 use Rattle.stream.specs.Records.{unused}
 use Rattle.table.specs.Table.{Table}
 use Rattle.lines.specs.Lines.{startLine, ending}
-use Rattle.lines.specs.Writing.{roomy}
+use Rattle.lines.specs.Placing.{roomy}
 use Rattle.listing.specs.Listing.{step, visit, linesAfter, numberAfter, listing}
 use Rattle.listing.specs.Chunks.{chunked}
 

@@ -9,7 +9,7 @@ use Rattle.capture.specs.Records.{Held, refused, Front, end, cut, whole}
 use Rattle.table.specs.Table.{Table}
 use Rattle.lines.specs.declared.Outcome.{Outcome}
 use Rattle.lines.specs.Lines.{lineOf, nextNumber}
-use Rattle.lines.specs.Writing.{roomy}
+use Rattle.lines.specs.Placing.{roomy}
 use Rattle.listing.specs.declared.chunk.Cursor.{Cursor}
 use Rattle.listing.specs.Listing.{step}
 

@@ -2,7 +2,7 @@
 use capture::Content;
 use capture::Entry;
 use lines::Outcome;
-use lines::Written;
+use lines::Placed;
 use refusal::Refusal;
 use stream::Receipt;
 use stream::Record;
@@ -17,7 +17,7 @@ ghost use Rattle.capture.specs.Records.{heldOf, frontOf, end, entryOf};
 ghost use Rattle.stream.specs.Answers.{receiptAnswer};
 ghost use Rattle.table.specs.Table.{changeNumber};
 ghost use Rattle.lines.specs.Lines.{admitted, removed, lineOf, nextNumber, lineText};
-ghost use Rattle.lines.specs.Writing.{roomy};
+ghost use Rattle.lines.specs.Placing.{roomy};
 ghost use Rattle.listing.specs.Listing.{changeLine, frameLine};
 ghost use Rattle.listing.specs.Private.{sizeAhead, heldAhead, Obeyed, halted, putWhole, putNext, Becomes};
 ghost use Rattle.listing.specs.Chunks.{ChunkListed};
@@ -138,8 +138,8 @@ fn put_whole(out: &mut [u8], c: Cursor, size: usize, outcome: Outcome) -> Cursor
 {
     let records = std::num::wrapping_add_u64(c.records, 1);
     match lines::put_record(out, c.put, records, outcome) {
-        Written::NoRoom => stopped(c),
-        Written::UpTo(end) => Cursor {
+        Placed::NoRoom => stopped(c),
+        Placed::UpTo(end) => Cursor {
             at: c.at + size,
             put: end,
             records,

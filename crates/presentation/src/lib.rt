@@ -1,7 +1,6 @@
 // Presentation time: when a frame's samples are due, by its stamp and the time at which it arrived.
 use frame::layout::Fields;
 ghost use mathlib.Core.Path.{_≡_};
-ghost use lib.IntN.{natAbs};
 ghost use Rattle.presentation.specs.Offset.{OneOffset, OffsetEdges, Remainder};
 ghost use Rattle.presentation.specs.Presentation.{untimed, stampOf, timing, presentation};
 
@@ -117,15 +116,3 @@ fn offset_edges()
 fn remainder()
     ensures { λ _. ⌜ Remainder ⌝ }
 {}
-
-// How far an offset is from zero, for those who print it.
-pub fn magnitude(offset: i64) -> u64
-    ensures { λ r. ⌜ r ≡ natAbs offset ⌝ }
-{
-    if offset < 0 {
-        // one less than the magnitude, so that the lowest number fits too
-        let less = -1 - offset;
-        return less as u64 + 1;
-    }
-    offset as u64
-}

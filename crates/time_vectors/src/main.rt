@@ -9,30 +9,31 @@ use frame::layout::Stream;
 use libc::STDOUT_FILENO;
 use presentation::Kind;
 
-fn text(bytes: &[u8]) {
+fn say(bytes: &[u8]) {
     io::write_all(STDOUT_FILENO, bytes);
 }
 
 fn number(name: &[u8], n: u64) {
-    text(name);
+    say(name);
     io::print_decimal(STDOUT_FILENO, n);
 }
 
 fn offset(d: i64) {
-    text(b" offset=");
-    if d < 0 {
-        text(b"-");
+    say(b" offset=");
+    let mut out = io::buffer();
+    let end = text::put_signed(&mut out, 0, d);
+    if end <= out.len() {
+        say(&out[0..end]);
     }
-    io::print_decimal(STDOUT_FILENO, presentation::magnitude(d));
 }
 
 fn kind(k: Kind) {
     match k {
-        Kind::None => text(b" none"),
-        Kind::Cut => text(b" cut"),
-        Kind::Outside => text(b" outside"),
-        Kind::Late => text(b" late"),
-        Kind::Ahead => text(b" ahead"),
+        Kind::None => say(b" none"),
+        Kind::Cut => say(b" cut"),
+        Kind::Outside => say(b" outside"),
+        Kind::Late => say(b" late"),
+        Kind::Ahead => say(b" ahead"),
     }
 }
 
@@ -44,7 +45,7 @@ fn show(arrival_time: u64, stamp: u32) {
     kind(k);
     offset(timing.offset);
     number(b" time=", timing.time);
-    text(b"\n");
+    say(b"\n");
 }
 
 // The fields of a sound frame with SPH 0 or 1, tv 0 or 1, and AVTP timestamp 1,500.
@@ -109,7 +110,7 @@ fn show_stamp(sph: bool, tv: bool, payload: &[u8]) {
     kind(k);
     offset(timing.offset);
     number(b" time=", timing.time);
-    text(b"\n");
+    say(b"\n");
 }
 
 fn show_marked() {

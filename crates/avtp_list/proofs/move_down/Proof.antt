@@ -7,7 +7,7 @@ use lib.ListN.{length, take, drop, getD, set, length-drop, length-set}
 use lib.Seq.{sets, getD-set-other, getD-drop, length-take-le, sets-eq, take-append-seam}
 use denote.Ref.{now}
 use borrow.Author.Needs.{needs}
-use Rattle.lines.proofs.Puts.{sets-more}
+use Rattle.text.proofs.Sets.{sets-more}
 use Rattle.avtp_list.proofs.move_down.Statement.{statement}
 use Rattle.avtp_list.proofs.move_down.Tie as tie
 

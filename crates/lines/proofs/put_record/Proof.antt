@@ -1,35 +1,28 @@
-use native.Mathlib.Omega.{arith}
 use denote.Ref.{now}
 use borrow.Author.Needs.{needs}
 use Rattle.lines.specs.Lines.{lineOf, lineText}
-use Rattle.lines.proofs.Puts.{room, unwritten, written}
+use Rattle.lines.proofs.Placing.{not-placed, placed}
 use Rattle.lines.proofs.put_record.Statement.{statement}
 use Rattle.lines.proofs.put_record.Tie as tie
 
 returns : tie.Need-returns
 returns c =
     let a = c .before .before .before .args in
-    unwritten (now (a .out)) (a .at) (c .before .roomy .ensures) (lineText (a .n) (lineOf (a .outcome))) (c .if1 .taken)
-
-put-line-requires : tie.Need-put-line-requires
-put-line-requires c κs =
-    let asked = c .before in
-    let a = asked .before .before .before .args in
-    omega (arith, room (now (a .out)) (a .at) (asked .before .roomy .ensures) (asked .if1 .left))
+    not-placed (now (a .out)) (a .at) (c .before .roomy .ensures) (lineText (a .n) (lineOf (a .outcome))) (c .if1 .taken)
 
 returns-2 : tie.Need-returns-2
 returns-2 c =
     let done = c .before .before in
     let asked = done .before .before in
     let a = asked .before .before .before .args in
-    written (now (a .out)) (a .at) (asked .before .roomy .ensures) (asked .if1 .left) (done .put-line .ensures .0) (done .put-line .ensures .1)
+    placed (now (a .out)) (a .at) (asked .before .roomy .ensures) (asked .if1 .left) (done .put-line .ensures .0) (done .put-line .ensures .1)
 
 pub put-record-spec : {M : Type 1} → statement M
 put-record-spec =
     tie.close
     (tie.spec
-    (λ c κs. search needs)
+    (λ c κs. tt)
     returns
-    put-line-requires
+    (λ c κs. tt)
     (λ c. search needs)
     returns-2)

@@ -11,7 +11,7 @@ use Rattle.stream.specs.Answers.{refusedWith, stepOf as frameStep, answerOf, af
 use Rattle.table.specs.Table.{any, place, admit, remove, numberWith, receive}
 use Rattle.capture.specs.Records.{lengthOf, kindOf, frameIn, wrongLength, unknownKind, entryOf}
 use Rattle.capture.specs.Walk.{walkFrom, walk}
-use Rattle.lines.specs.Text.{digits, decimal}
+use Rattle.text.specs.Text.{digits, decimal}
 use Rattle.lines.specs.Lines.{endLine, flagsText, timingText, lineText}
 use Rattle.listing.specs.Listing.{visit, linesAfter, numberAfter, listing}
 use Rattle.listing.specs.Example.{exampleCapture, exampleListing}

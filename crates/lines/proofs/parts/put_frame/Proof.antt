@@ -1,6 +1,6 @@
-use borrow.Author.Needs.{needs}
+use Rattle.text.proofs.Puts.{alone, more}
 use Rattle.lines.specs.Lines.{lineText}
-use Rattle.lines.proofs.Puts.{more}
+use Rattle.lines.proofs.Lengths.{frame-length}
 use Rattle.lines.proofs.parts.put_frame.Statement.{statement}
 use Rattle.lines.proofs.parts.put_frame.Tie as tie
 
@@ -10,14 +10,17 @@ returns c =
     let timing = c .before .before in
     let flags = timing .before .before .before .before in
     let number = flags .before .before .before .before in
-    (more (more (number .put-number .ensures .0) (flags .put-flags .ensures .0)) (timing .put-timing .ensures .0), search needs)
+    let start = number .before .before .before in (
+      more (more (alone (number .put-decimal .ensures)) (flags .put-flags .ensures)) (timing .put-timing .ensures .0),
+      frame-length (start .args .n) (start .fits .n .fits) (start .args .flags) (start .args .timing) (timing .put-timing .ensures .1),
+    )
 
 pub put-frame-spec : {M : Type 1} → statement M
 put-frame-spec =
     tie.close
     (tie.spec
-    (λ c κs. search needs)
-    (λ c κs. search needs)
-    (λ c κs. search needs)
-    (λ c. search needs)
+    (λ c κs. tt)
+    (λ c κs. tt)
+    (λ c κs. tt)
+    (λ c. returns c .0 .kept)
     returns)

@@ -1,6 +1,6 @@
-use borrow.Author.Needs.{needs}
+use mathlib.Core.Path.{refl}
+use Rattle.text.proofs.Puts.{alone, more}
 use Rattle.lines.specs.Lines.{endLine}
-use Rattle.lines.proofs.Puts.{more}
 use Rattle.lines.proofs.parts.put_last.Statement.{statement}
 use Rattle.lines.proofs.parts.put_last.Tie as tie
 
@@ -9,16 +9,16 @@ unfolding endLine
 returns c =
     let end = c .before .before in
     let number = end .before .before .before .before .before in
-    (more (more (number .before .before .before .before .put .ensures) (number .put-number .ensures .0)) (end .put2 .ensures), search needs)
+    more (more (alone (number .before .before .before .before .put .ensures)) (alone (number .put-decimal .ensures))) (alone (end .put2 .ensures))
 
 pub put-last-spec : {M : Type 1} → statement M
 put-last-spec =
     tie.close
     (tie.spec
-    (λ c. search needs)
-    (λ c κs. search needs)
-    (λ c κs. search needs)
-    (λ c. search needs)
-    (λ c κs. search needs)
-    (λ c. search needs)
+    (λ c. refl)
+    (λ c κs. tt)
+    (λ c κs. tt)
+    (λ c. refl)
+    (λ c κs. tt)
+    (λ c. returns c .kept)
     returns)

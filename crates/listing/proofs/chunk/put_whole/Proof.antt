@@ -4,8 +4,8 @@ use lib.ListN.{length}
 use borrow.Author.Needs.{needs}
 use denote.Ref.{now}
 use Rattle.lines.specs.Lines.{lineOf, nextNumber, lineText}
-use Rattle.lines.specs.declared.Written.{Written}
-use Rattle.lines.specs.Writing.{told as written, writing}
+use Rattle.lines.specs.declared.Placed.{Placed}
+use Rattle.lines.specs.Placing.{placedLine, lineAt}
 use Rattle.listing.proofs.Chunks.{none-put, stays, passed-to, line-put}
 use Rattle.listing.proofs.chunk.put_whole.Statement.{statement}
 use Rattle.listing.proofs.chunk.put_whole.Tie as tie
@@ -16,7 +16,7 @@ returns c =
     let added = wrote .before .before in
     let a = added .before .before .args in
     let said = none-put (now (a .out)) (wrote .put-record .last .0) (lineText (nextNumber (a .c .records)) (lineOf (a .outcome))) (a .c) (a .size)
-    (ap (λ (w : Written). written w (wrote .put-record .last .0)) (sym (c .before .enum-told .given .1)) ∙ wrote .put-record .ensures .0 ∙ ap (λ (n : ℕ). writing (now (a .out)) (a .c .put) (lineText n (lineOf (a .outcome)))) (added .wrapping-add-u64 .ensures)) in
+    (ap (λ (w : Placed). placedLine w (wrote .put-record .last .0)) (sym (c .before .enum-told .given .1)) ∙ wrote .put-record .ensures .0 ∙ ap (λ (n : ℕ). lineAt (now (a .out)) (a .c .put) (lineText n (lineOf (a .outcome)))) (added .wrapping-add-u64 .ensures)) in
     record {
       cursor = c .stopped .ensures ∙ said .0 .0;
       out = said .0 .1;
@@ -30,11 +30,11 @@ returns-2 c =
     let a = added .before .before .args in
     let end = c .before .before .end .given in
     let said = line-put (now (a .out)) (wrote .put-record .last .0) (lineText (nextNumber (a .c .records)) (lineOf (a .outcome))) (a .c) (a .size) (end .0 .0)
-    (ap (λ (w : Written). written w (wrote .put-record .last .0)) (sym (end .1)) ∙ wrote .put-record .ensures .0 ∙ ap (λ (n : ℕ). writing (now (a .out)) (a .c .put) (lineText n (lineOf (a .outcome)))) (added .wrapping-add-u64 .ensures)) in
+    (ap (λ (w : Placed). placedLine w (wrote .put-record .last .0)) (sym (end .1)) ∙ wrote .put-record .ensures .0 ∙ ap (λ (n : ℕ). lineAt (now (a .out)) (a .c .put) (lineText n (lineOf (a .outcome)))) (added .wrapping-add-u64 .ensures)) in
     record {
       cursor = ap (λ (n : ℕ). passed-to n (a .size) (end .0 .0) (a .c)) (added .wrapping-add-u64 .ensures) ∙ said .0;
       out = said .1;
-      within = λ _. subst (λ (w : Written). written w (wrote .put-record .last .0) .end ≤ length (wrote .put-record .last .0)) (end .1) (wrote .put-record .ensures .1);
+      within = λ _. subst (λ (w : Placed). placedLine w (wrote .put-record .last .0) .end ≤ length (wrote .put-record .last .0)) (end .1) (wrote .put-record .ensures .1);
     }
 
 pub put-whole-spec : {M : Type 1} → statement M
