@@ -6,7 +6,8 @@ use lines::Placed;
 use stream::Record;
 ghost use mathlib.Core.Path.{_≡_};
 ghost use Prim.Native.Nat.{_-_, _≤_};
-ghost use lib.ListN.{length, take};
+ghost use lib.ListN.{length};
+ghost use lib.Seq.{sets};
 ghost use Rattle.wire.specs.Numbers.{part};
 
 // What a turn leaves: the table, the records listed, the place of the bytes that are not listed yet and their end, whether there is
@@ -36,7 +37,7 @@ fn input_room() -> [u8; 262144]
 // Moves the bytes from a place on to the front.
 fn move_down(input: &mut [u8], from: usize, have: usize)
     requires { ⌜ (from ≤ have) × (have ≤ length (now input)) ⌝ }
-    ensures { λ _. ⌜ take (have - from) (now (input .exit)) ≡ part from (have - from) (now (input .entry)) ⌝ }
+    ensures { λ _. ⌜ now (input .exit) ≡ sets (now (input .entry)) 0 (part from (have - from) (now (input .entry))) ⌝ }
 {
     let mut i = from;
     while i < have {
@@ -167,7 +168,7 @@ fn write_start(out: &mut [u8]) -> bool {
 
 // The bytes that are left at the end, if any, are a record that the capture ends in.
 fn write_ending(out: &mut [u8], records: u64, left: usize) -> bool {
-    let lines = lines::put_ending(out, 0, left > 0, records);
+    let lines = lines::put_ending(out, 0, left, records);
     write_line(lines, out)
 }
 

@@ -9,8 +9,8 @@ use borrow.Author.Tests.{eq-eqb, ne-eqb}
 use lib.ListN.{length, take, drop, length-append, length-drop}
 use lib.Seq.{take-append-le, drop-append-le, drop-drop}
 use Rattle.capture.specs.Records.{Held, refused, Front, end, cut, whole, entryOf}
-use Rattle.capture.specs.Walk.{walkBy, walkFrom, walk, Part, partBy, partFrom, part}
-use Rattle.capture.specs.InChunks.{Chunk, joined, unread, behind, withChunk, withChunks, ending, InChunks}
+use Rattle.capture.specs.Walk.{walkBy, walkFrom, walk, ChunkWalk, walkChunkBy, walkChunkFrom, walkChunk}
+use Rattle.capture.specs.InChunks.{Chunk, joined, unread, behind, withChunk, withChunks, walkEnd, InChunks}
 use Rattle.capture.proofs.Fronts.{end-empty, cut-some, sized}
 use Rattle.capture.proofs.Parts.{read-in-parts}
 
@@ -49,12 +49,12 @@ module _ {O S : Type 0} (step : S → List ℕ → Held → O × S) where
   every-record (suc j) (suc k) rest s hj hk = walk-alike j k (every-record j k) rest s hj hk (entryOf rest) refl
 
   module _ (ready : List O → Bool) where
-    abbrev stop : List O → List ℕ → S → Part O S
+    abbrev stop : List O → List ℕ → S → ChunkWalk O S
     stop said rest s = record { said = said; rest = rest; state = s }
 
-    module _ (j k : ℕ) (alike : (said : List O) (rest : List ℕ) (s : S) → length rest ≤ j → length rest ≤ k → partFrom step j ready said rest s ≡ partFrom step k ready said rest s)
+    module _ (j k : ℕ) (alike : (said : List O) (rest : List ℕ) (s : S) → length rest ≤ j → length rest ≤ k → walkChunkFrom step j ready said rest s ≡ walkChunkFrom step k ready said rest s)
         (said : List O) (rest : List ℕ) (s : S) (hj : length rest ≤ suc j) (hk : length rest ≤ suc k) where
-      part-alike : (f : Front) → entryOf rest ≡ f → partBy step (partFrom step j ready) said rest s f ≡ partBy step (partFrom step k ready) said rest s f
+      part-alike : (f : Front) → entryOf rest ≡ f → walkChunkBy step (walkChunkFrom step j ready) said rest s f ≡ walkChunkBy step (walkChunkFrom step k ready) said rest s f
       part-alike end e = refl
       part-alike cut e = refl
       part-alike (whole size held) e =
@@ -63,26 +63,26 @@ module _ {O S : Type 0} (step : S → List ℕ → Held → O × S) where
           let a = step s (take size rest) held in
           alike (said ++ (a .0 ∷ [])) (drop size rest) (a .1) (omega arith) (omega arith)
 
-    none-ready : (b : Bool) (x : Part O S) → x ≡ cond b x x
+    none-ready : (b : Bool) (x : ChunkWalk O S) → x ≡ cond b x x
     none-ready true x = refl
     none-ready false x = refl
 
-    none-parted : (k : ℕ) (said : List O) (rest : List ℕ) (s : S) → length rest ≤ 0 → stop said rest s ≡ partFrom step k ready said rest s
-    unfolding partFrom entryOf
+    none-parted : (k : ℕ) (said : List O) (rest : List ℕ) (s : S) → length rest ≤ 0 → stop said rest s ≡ walkChunkFrom step k ready said rest s
+    unfolding walkChunkFrom entryOf
     none-parted zero said rest s h = refl
     none-parted (suc k) said rest s h = rw (eq-eqb (length rest) 0 (omega arith)) (none-ready (ready said) (stop said rest s))
 
-    every-whole-record : (j k : ℕ) (said : List O) (rest : List ℕ) (s : S) → length rest ≤ j → length rest ≤ k → partFrom step j ready said rest s ≡ partFrom step k ready said rest s
-    unfolding partFrom
+    every-whole-record : (j k : ℕ) (said : List O) (rest : List ℕ) (s : S) → length rest ≤ j → length rest ≤ k → walkChunkFrom step j ready said rest s ≡ walkChunkFrom step k ready said rest s
+    unfolding walkChunkFrom
     every-whole-record zero k said rest s hj hk = none-parted k said rest s hj
     every-whole-record (suc j) zero said rest s hj hk = sym (none-parted (suc j) said rest s hk)
     every-whole-record (suc j) (suc k) said rest s hj hk =
-        ap (λ (x : Part O S). cond (ready said) x (stop said rest s)) (part-alike j k (every-whole-record j k) said rest s hj hk (entryOf rest) refl)
+        ap (λ (x : ChunkWalk O S). cond (ready said) x (stop said rest s)) (part-alike j k (every-whole-record j k) said rest s hj hk (entryOf rest) refl)
 
     -- ---- what remains is the end of the chunk
     module _ (chunk : List ℕ) where
-      end-by : (k : ℕ) → ((said : List O) (rest : List ℕ) (s : S) → EndOf chunk rest → EndOf chunk (partFrom step k ready said rest s .rest))
-          → (said : List O) (rest : List ℕ) (s : S) → EndOf chunk rest → (f : Front) → entryOf rest ≡ f → (b : Bool) → EndOf chunk (cond b (partBy step (partFrom step k ready) said rest s f) (stop said rest s) .rest)
+      end-by : (k : ℕ) → ((said : List O) (rest : List ℕ) (s : S) → EndOf chunk rest → EndOf chunk (walkChunkFrom step k ready said rest s .rest))
+          → (said : List O) (rest : List ℕ) (s : S) → EndOf chunk rest → (f : Front) → entryOf rest ≡ f → (b : Bool) → EndOf chunk (cond b (walkChunkBy step (walkChunkFrom step k ready) said rest s f) (stop said rest s) .rest)
       end-by k onward said rest s h f e false = h
       end-by k onward said rest s h end e true = h
       end-by k onward said rest s h cut e true = h
@@ -92,8 +92,8 @@ module _ {O S : Type 0} (step : S → List ℕ → Held → O × S) where
           let a = step s (take size rest) held in
           onward (said ++ (a .0 ∷ [])) (drop size rest) (a .1) (m + size, omega arith, ap (drop size) q ∙ drop-drop size m chunk)
 
-      part-end : (k : ℕ) (said : List O) (rest : List ℕ) (s : S) → EndOf chunk rest → EndOf chunk (partFrom step k ready said rest s .rest)
-      unfolding partFrom
+      part-end : (k : ℕ) (said : List O) (rest : List ℕ) (s : S) → EndOf chunk rest → EndOf chunk (walkChunkFrom step k ready said rest s .rest)
+      unfolding walkChunkFrom
       part-end zero said rest s h = h
       part-end (suc k) said rest s h = end-by k (part-end k) said rest s h (entryOf rest) refl (ready said)
 
@@ -123,11 +123,11 @@ module _ {O S : Type 0} (step : S → List ℕ → Held → O × S) where
 
   module _ (ready : List O → Bool) (later : List ℕ) where
     -- what has been said, and then what remains with what comes later
-    abbrev all : Part O S → List O × S
+    abbrev all : ChunkWalk O S → List O × S
     all p = behind (p .said) (walk step (p .rest ++ later) (p .state))
 
-    all-by : (k : ℕ) → ((said : List O) (rest : List ℕ) (s : S) → all (partFrom step k ready said rest s) ≡ all (stop ready said rest s))
-        → (said : List O) (rest : List ℕ) (s : S) (f : Front) → entryOf rest ≡ f → (b : Bool) → all (cond b (partBy step (partFrom step k ready) said rest s f) (stop ready said rest s)) ≡ all (stop ready said rest s)
+    all-by : (k : ℕ) → ((said : List O) (rest : List ℕ) (s : S) → all (walkChunkFrom step k ready said rest s) ≡ all (stop ready said rest s))
+        → (said : List O) (rest : List ℕ) (s : S) (f : Front) → entryOf rest ≡ f → (b : Bool) → all (cond b (walkChunkBy step (walkChunkFrom step k ready) said rest s f) (stop ready said rest s)) ≡ all (stop ready said rest s)
     all-by k onward said rest s f e false = refl
     all-by k onward said rest s end e true = refl
     all-by k onward said rest s cut e true = refl
@@ -137,53 +137,53 @@ module _ {O S : Type 0} (step : S → List ℕ → Held → O × S) where
         ∙ (λ i. (append-assoc said (a .0 ∷ []) (walk step (drop size rest ++ later) (a .1) .0) i, walk step (drop size rest ++ later) (a .1) .1))
         ∙ ap (behind said) (sym (next-walked rest later s size held e))
 
-    all-same : (k : ℕ) (said : List O) (rest : List ℕ) (s : S) → all (partFrom step k ready said rest s) ≡ all (stop ready said rest s)
-    unfolding partFrom
+    all-same : (k : ℕ) (said : List O) (rest : List ℕ) (s : S) → all (walkChunkFrom step k ready said rest s) ≡ all (stop ready said rest s)
+    unfolding walkChunkFrom
     all-same zero said rest s = refl
     all-same (suc k) said rest s = all-by k (all-same k) said rest s (entryOf rest) refl (ready said)
 
-  more-to-come : (ready : List O → Bool) (chunk later : List ℕ) (s : S) → walk step (chunk ++ later) s ≡ all ready later (part step ready chunk s)
-  unfolding part
+  more-to-come : (ready : List O → Bool) (chunk later : List ℕ) (s : S) → walk step (chunk ++ later) s ≡ all ready later (walkChunk step ready chunk s)
+  unfolding walkChunk
   more-to-come ready chunk later s = sym (all-same ready later (length chunk) [] chunk s)
 
   -- ---- the end of a capture
 
   -- where a record is whole, some bytes are used
   used-some : (ready : List O → Bool) (left : List ℕ) (s : S) (size : ℕ) (held : Held) → entryOf left ≡ whole size held → ready [] ≡ true → (k : ℕ) → length left ≡ k
-      → length (partFrom step k ready [] left s .rest) ≡ length left → ⊥
-  unfolding partFrom
+      → length (walkChunkFrom step k ready [] left s .rest) ≡ length left → ⊥
+  unfolding walkChunkFrom
   used-some ready left s size held e b zero l z = let p = sized left size held e in omega arith
   used-some ready left s size held e b (suc k) l z =
       let p = sized left size held e in
       let a = step s (take size left) held in
       let f = part-end ready (drop size left) k (a .0 ∷ []) (drop size left) (a .1) (0, zero≤, refl) in
       let d = length-drop size left in
-      let g = end-used (drop size left) (partFrom step k ready (a .0 ∷ []) (drop size left) (a .1) .rest) f in
-      let w : length (partFrom step k ready (a .0 ∷ []) (drop size left) (a .1) .rest) ≡ length left = rw (b, e) at z in
+      let g = end-used (drop size left) (walkChunkFrom step k ready (a .0 ∷ []) (drop size left) (a .1) .rest) f in
+      let w : length (walkChunkFrom step k ready (a .0 ∷ []) (drop size left) (a .1) .rest) ≡ length left = rw (b, e) at z in
       omega arith
 
-  at-the-end : (ready : List O → Bool) (left : List ℕ) (s : S) → ready [] ≡ true → length (part step ready left s .rest) ≡ length left → walk step left s ≡ ending step left s
-  unfolding walk walkFrom part
+  at-the-end : (ready : List O → Bool) (left : List ℕ) (s : S) → ready [] ≡ true → length (walkChunk step ready left s .rest) ≡ length left → walk step left s ≡ walkEnd step left s
+  unfolding walk walkFrom walkChunk
   at-the-end ready left s b z = by-front (entryOf left) refl
     where
       cut-walked : entryOf left ≡ cut → (k : ℕ) → (k ≡ 0 → ⊥) → walkFrom step k left s ≡ (step s left (refused 41) .0 ∷ [], step s left (refused 41) .1)
       cut-walked e zero h = absurd (h refl)
       cut-walked e (suc k) h = rw e
 
-      by-front : (f : Front) → entryOf left ≡ f → walkFrom step (length left) left s ≡ ending step left s
+      by-front : (f : Front) → entryOf left ≡ f → walkFrom step (length left) left s ≡ walkEnd step left s
       by-front end e = let n = end-empty left e in rw (eq-eqb (length left) 0 n, n)
       by-front cut e = let n = cut-some left e in rw (ne-eqb (length left) 0 n) (cut-walked e (length left) n)
       by-front (whole size held) e = absurd (used-some ready left s size held e b (length left) refl z)
 
   -- ---- a whole capture
 
-  all-chunks : (cs : List (Chunk O)) (p : Part O S) → behind (p .said) (walk step (p .rest ++ joined cs) (p .state))
+  all-chunks : (cs : List (Chunk O)) (p : ChunkWalk O S) → behind (p .said) (walk step (p .rest ++ joined cs) (p .state))
       ≡ behind (withChunks step p cs .said) (walk step (withChunks step p cs .rest) (withChunks step p cs .state))
   unfolding joined withChunk withChunks
   all-chunks [] p = rw (append-nil (p .rest))
   all-chunks (c ∷ cs) p =
       let ready = c .ready (p .said) in
-      let q = part step ready (p .rest ++ c .bytes) (p .state) in
+      let q = walkChunk step ready (p .rest ++ c .bytes) (p .state) in
       let w = walk step (q .rest ++ joined cs) (q .state) in
       ap (λ (x : List ℕ). behind (p .said) (walk step x (p .state))) (sym (append-assoc (p .rest) (c .bytes) (joined cs)))
       ∙ ap (behind (p .said)) (more-to-come ready (p .rest ++ c .bytes) (joined cs) (p .state))
@@ -191,8 +191,8 @@ module _ {O S : Type 0} (step : S → List ℕ → Held → O × S) where
       ∙ all-chunks cs (withChunk step p c)
 
   left-over : (ready : List O → Bool) (chunk : List ℕ) (s : S)
-      → (length (part step ready chunk s .rest) ≤ length chunk) × (drop (length chunk - length (part step ready chunk s .rest)) chunk ≡ part step ready chunk s .rest)
-  unfolding part
+      → (length (walkChunk step ready chunk s .rest) ≤ length chunk) × (drop (length chunk - length (walkChunk step ready chunk s .rest)) chunk ≡ walkChunk step ready chunk s .rest)
+  unfolding walkChunk
   left-over ready chunk s = end-used chunk _ (part-end ready chunk (length chunk) [] chunk s (0, zero≤, refl))
 
   pub in-chunks : InChunks step

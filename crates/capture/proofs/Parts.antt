@@ -5,11 +5,12 @@ use mathlib.Core.Bool.{Bool, true, false, not, _&&_, _||_}
 use mathlib.Core.List.{List, _++_}
 use mathlib.Core.Logic.{_⊎_, inl, inr, ⊎-elim}
 use native.Mathlib.Omega.{arith}
-use borrow.Author.Tests.{le-leb, eqb-true, ltb-false}
+use borrow.Author.Tests.{eqb-true, ltb-false}
 use lib.Dec.{T, eqb, ltb}
 use lib.ListN.{length, drop, length-append, length-drop}
 use lib.Seq.{take-append-le, drop-append-le}
-use Rattle.wire.specs.Numbers.{part, numberOr0, littleEndianOr0}
+use Rattle.wire.specs.Numbers.{part, spelledOr0, number, littleEndian}
+use Rattle.wire.proofs.Numbers.{there}
 use Rattle.capture.specs.Records.{whole, lengthOf, kindOf, sizeOf, bodyOf, wrongLength, unknownKind, entryOf}
 use Rattle.capture.specs.Parts.{ReadInParts}
 use Rattle.capture.proofs.Fronts.{wrong, unknown, known, all-there, sized}
@@ -26,11 +27,8 @@ module _ (at k : ℕ) (s t : List ℕ) (h : at + k ≤ length s) where
   longer : at + k ≤ length (s ++ t)
   longer = rw (length-append s t) (omega arith)
 
-  big-same : numberOr0 at k (s ++ t) ≡ numberOr0 at k s
-  big-same = rw (le-leb (at + k) (length (s ++ t)) longer, le-leb (at + k) (length s) h, part-same)
-
-  little-same : littleEndianOr0 at k (s ++ t) ≡ littleEndianOr0 at k s
-  little-same = rw (le-leb (at + k) (length (s ++ t)) longer, le-leb (at + k) (length s) h, part-same)
+  read-same : (spelled : List ℕ → ℕ) → spelledOr0 spelled at k (s ++ t) ≡ spelledOr0 spelled at k s
+  read-same spelled = there spelled at k (s ++ t) longer ∙ ap spelled part-same ∙ sym (there spelled at k s h)
 
 -- ---- how long a record is that is not refused
 
@@ -83,14 +81,14 @@ module _ (rest later : List ℕ) (some : length rest ≡ 0 → ⊥) (all : sizeO
 
   length-same : n ≡ lengthOf both
   unfolding lengthOf
-  length-same = sym (little-same 0 2 rest later (omega arith))
+  length-same = sym (read-same 0 2 rest later (omega arith) littleEndian)
 
   kind-same : 2 ≤ n → k ≡ kindOf both
   unfolding kindOf
-  kind-same h = sym (little-same 2 2 rest later (omega arith))
+  kind-same h = sym (read-same 2 2 rest later (omega arith) littleEndian)
 
   body-same : 10 ≤ n → bodyOf k both ≡ bodyOf k rest
-  body-same h = rw (little-same 4 8 rest later (omega arith), big-same 4 8 rest later (omega arith))
+  body-same h = rw (read-same 4 8 rest later (omega arith) littleEndian, read-same 4 8 rest later (omega arith) number)
 
   by-checks : (w u : Bool) → wrongLength n k ≡ w → unknownKind k ≡ u → entryOf both ≡ entryOf rest
   by-checks true u ew eu =

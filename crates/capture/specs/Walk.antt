@@ -30,23 +30,23 @@ module _ {O S : Type 0} (step : S → List ℕ → Held → O × S) where
 -- ---- A part of a capture: the whole records at the front of a chunk, while `ready` says of what has been said so far that there is room for
 -- more. What is left of the chunk waits for the bytes that come later.
 
-pub record Part (O S : Type 0) : Type 0 where
+pub record ChunkWalk (O S : Type 0) : Type 0 where
   pub said : List O
   pub rest : List ℕ
   pub state : S
 
 module _ {O S : Type 0} (step : S → List ℕ → Held → O × S) where
-  abbrev pub partBy : (List O → List ℕ → S → Part O S) → List O → List ℕ → S → Front → Part O S
-  partBy onward said rest s end = record { said = said; rest = rest; state = s }
-  partBy onward said rest s cut = record { said = said; rest = rest; state = s }
-  partBy onward said rest s (whole size held) =
+  abbrev pub walkChunkBy : (List O → List ℕ → S → ChunkWalk O S) → List O → List ℕ → S → Front → ChunkWalk O S
+  walkChunkBy onward said rest s end = record { said = said; rest = rest; state = s }
+  walkChunkBy onward said rest s cut = record { said = said; rest = rest; state = s }
+  walkChunkBy onward said rest s (whole size held) =
       let a = step s (take size rest) held in
       onward (said ++ (a .0 ∷ [])) (drop size rest) (a .1)
 
-  unfoldable pub partFrom : ℕ → (List O → Bool) → List O → List ℕ → S → Part O S
-  partFrom zero ready said rest s = record { said = said; rest = rest; state = s }
-  partFrom (suc k) ready said rest s =
-      cond (ready said) (partBy (partFrom k ready) said rest s (entryOf rest)) (record { said = said; rest = rest; state = s })
+  unfoldable pub walkChunkFrom : ℕ → (List O → Bool) → List O → List ℕ → S → ChunkWalk O S
+  walkChunkFrom zero ready said rest s = record { said = said; rest = rest; state = s }
+  walkChunkFrom (suc k) ready said rest s =
+      cond (ready said) (walkChunkBy (walkChunkFrom k ready) said rest s (entryOf rest)) (record { said = said; rest = rest; state = s })
 
-  unfoldable pub part : (List O → Bool) → List ℕ → S → Part O S
-  part ready chunk s = partFrom (length chunk) ready [] chunk s
+  unfoldable pub walkChunk : (List O → Bool) → List ℕ → S → ChunkWalk O S
+  walkChunk ready chunk s = walkChunkFrom (length chunk) ready [] chunk s

@@ -1,9 +1,9 @@
 // A capture's records, one at a time: what stands at the front of the bytes that remain of it.
 use refusal::Refusal;
 ghost use mathlib.Core.Path.{_≡_};
-ghost use Prim.Native.Nat.{_+_, _<_};
 ghost use lib.ListN.{length};
 ghost use denote.Ref.{ptr};
+ghost use Rattle.wire.specs.Parts.{StandsIn};
 ghost use Rattle.capture.specs.Records.{heldOf, frontOf, entryOf, wrongLength, unknownKind, bodyOf, frameIn};
 ghost use Rattle.capture.specs.Sizes.{RecordSizes};
 ghost use Rattle.capture.specs.Parts.{ReadInParts};
@@ -94,8 +94,7 @@ pub fn next_record(capture: &[u8]) -> Entry
 // The frame in a record of kind 1, the part of it behind its arrival time.
 pub fn frame_in(record: &[u8]) -> &[u8]
     ensures { λ r. ⌜ now r ≡ frameIn (now («record» .entry)) ⌝ }
-    ensures { λ r. ⌜ ptr r .0 ≡ ptr («record» .entry) .0 ⌝ }
-    ensures { λ r. ⌜ (0 < length (now r) → ptr r .1 ≡ ptr («record» .entry) .1 + 12) ⌝ }
+    ensures { λ r. ⌜ StandsIn (ptr («record» .entry)) 12 (ptr r) (length (now r)) ⌝ }
 {
     if record.len() < 12 {
         return &record[..0];

@@ -6,6 +6,7 @@ use refusal::Refusal;
 use stream::Flags;
 ghost use mathlib.Core.Path.{_≡_};
 ghost use Prim.Native.Nat.{_≤_};
+ghost use lib.Dec.{ltb};
 ghost use lib.ListN.{length};
 ghost use Rattle.lines.specs.Lines.{startLine, ending, lineOf, lineText};
 ghost use Rattle.lines.specs.Placing.{roomy, placedLine, lineAt};
@@ -64,15 +65,16 @@ pub fn put_record(out: &mut [u8], at: usize, n: u64, outcome: Outcome) -> Placed
     Placed::UpTo(parts::put_line(out, at, n, outcome))
 }
 
-// The end of a listing, after so many records: the line of a record in which the capture ends, if it does, and the last line.
-pub fn put_ending(out: &mut [u8], at: usize, cut: bool, records: u64) -> Placed
-    ensures { λ r. ⌜ placedLine r (now (out .exit)) ≡ lineAt (now (out .entry)) at (ending cut records) ⌝ }
+// The end of a listing, after so many records, where so many bytes are left that are no whole record: if there are any, the line of
+// the record in which the capture ends, and then the last line.
+pub fn put_ending(out: &mut [u8], at: usize, left: usize, records: u64) -> Placed
+    ensures { λ r. ⌜ placedLine r (now (out .exit)) ≡ lineAt (now (out .entry)) at (ending (ltb 0 left) records) ⌝ }
     ensures { λ r. ⌜ placedLine r (now (out .exit)) .end ≤ length (now (out .exit)) ⌝ }
 {
     if !roomy(out.len(), at) {
         return Placed::NoRoom;
     }
-    if cut {
+    if left > 0 {
         return Placed::UpTo(parts::put_cut(out, at, records));
     }
     Placed::UpTo(parts::put_last(out, at, records))

@@ -8,7 +8,7 @@ use borrow.Author.Tests.{eqb-true, eqb-false, lt-ltb, le-ltb}
 use lib.Dec.{eqb, ltb}
 use lib.ListN.{length, replicate}
 use Rattle.capture.specs.Records.{refused}
-use Rattle.capture.specs.Walk.{Part, walk}
+use Rattle.capture.specs.Walk.{ChunkWalk, walk}
 use Rattle.capture.specs.InChunks as walked
 use Rattle.capture.proofs.InChunks.{in-chunks as walked-in-chunks}
 use Rattle.stream.specs.Records.{unused}
@@ -21,7 +21,7 @@ use Rattle.listing.specs.InChunks.{Chunk, joined, Run, unread, withChunk
 use Rattle.listing.proofs.Lines.{lines-append, number-append, lines-more, number-more}
 
 -- a capture that has been gone through so far, as it is listed
-abbrev shown : Part Said Table → Run
+abbrev shown : ChunkWalk Said Table → Run
 shown p = record { rest = p .rest; text = linesAfter 0 (p .said); records = numberAfter 0 (p .said); table = p .state }
 
 -- a chunk with its room, by what was said before it and of it
@@ -33,13 +33,13 @@ unfolding joined walked.joined
 same-capture [] = refl
 same-capture (c ∷ cs) = ap (λ (l : List ℕ). c .bytes ++ l) (same-capture cs)
 
-shown-chunk : (p : Part Said Table) (c : Chunk) → withChunk (shown p) c ≡ shown (walked.withChunk step p (roomFor c))
+shown-chunk : (p : ChunkWalk Said Table) (c : Chunk) → withChunk (shown p) c ≡ shown (walked.withChunk step p (roomFor c))
 unfolding withChunk walked.withChunk chunked
 shown-chunk p c =
     let q = chunked (p .rest ++ c .bytes) (p .state) (numberAfter 0 (p .said)) (c .room) in
     λ i. record { rest = q .rest; text = sym (lines-append 0 (p .said) (q .said)) i; records = sym (number-append 0 (p .said) (q .said)) i; table = q .state }
 
-shown-chunks : (cs : List Chunk) (p : Part Said Table) → withChunks (shown p) cs ≡ shown (walked.withChunks step p (map roomFor cs))
+shown-chunks : (cs : List Chunk) (p : ChunkWalk Said Table) → withChunks (shown p) cs ≡ shown (walked.withChunks step p (map roomFor cs))
 unfolding withChunks walked.withChunks
 shown-chunks [] p = refl
 shown-chunks (c ∷ cs) p = ap (λ (r : Run). withChunks r cs) (shown-chunk p c) ∙ shown-chunks cs (walked.withChunk step p (roomFor c))
@@ -59,7 +59,7 @@ module _ (said : List Said) (left : List ℕ) (t : Table) where
       (rw (lt-ltb 0 (length left) (omega arith), lines-more 0 said x, number-more 0 said x) (append-assoc (linesAfter 0 said) _ _), refl)
 
 module _ (cs : List Chunk) (room : ℕ) (fits : roomy room 0 ≡ true) where
-  abbrev p : Part Said Table
+  abbrev p : ChunkWalk Said Table
   p = walked.withChunks step (walked.unread (replicate 64 unused)) (map roomFor cs)
 
   -- the claim at a run

@@ -7,10 +7,10 @@ use native.Mathlib.Omega.{arith}
 use lib.Dec.{T}
 use lib.ListN.{length, take, drop, length-drop, length-append}
 use lib.Seq.{sets, length-sets, drop-drop}
-use Rattle.wire.specs.Numbers.{part as partAt}
+use Rattle.wire.specs.Numbers.{part}
 use Rattle.capture.specs.Records.{Held, Front, end, cut, whole, entryOf}
 use Rattle.capture.specs.Sizes.{Within}
-use Rattle.capture.specs.Walk.{Part, partBy, partFrom, part}
+use Rattle.capture.specs.Walk.{ChunkWalk, walkChunkBy, walkChunkFrom, walkChunk}
 use Rattle.capture.proofs.Fronts.{sized}
 use Rattle.capture.proofs.InChunks.{in-chunks as walked-in-chunks}
 use Rattle.table.specs.Table.{Table}
@@ -35,7 +35,7 @@ pub record Run : Type 0 where
 abbrev stopped : Run → Run
 stopped r = record { said = r .said; rest = r .rest; table = r .table; going = false }
 
-abbrev stop : Run → Part Said Table
+abbrev stop : Run → ChunkWalk Said Table
 stop r = record { said = r .said; rest = r .rest; state = r .table }
 
 module _ (chunk : List ℕ) (t : Table) (n : ℕ) (d : List ℕ) where
@@ -56,8 +56,8 @@ module _ (chunk : List ℕ) (t : Table) (n : ℕ) (d : List ℕ) where
   ready said = roomy (length d) (length (linesAfter n said))
 
   -- what a run comes to, with at most k records more
-  abbrev inTurns : ℕ → Run → Part Said Table
-  inTurns k r = cond (r .going) (partFrom step k ready (r .said) (r .rest) (r .table)) (stop r)
+  abbrev inTurns : ℕ → Run → ChunkWalk Said Table
+  inTurns k r = cond (r .going) (walkChunkFrom step k ready (r .said) (r .rest) (r .table)) (stop r)
 
   pub record Shape (k : ℕ) (r : Run) : Type 0 where
     pub rest : r .rest ≡ drop (length chunk - length (r .rest)) chunk
@@ -73,7 +73,7 @@ module _ (chunk : List ℕ) (t : Table) (n : ℕ) (d : List ℕ) where
     pub put : length (linesAfter n (r .said)) ≤ length d
 
   pub starts : n < 2 ^ 64 → Under (suc (length chunk)) start
-  unfolding chunked part linesAfter numberAfter
+  unfolding chunked walkChunk linesAfter numberAfter
   starts fits =
       record {
         shape = record { rest = ap (λ (k : ℕ). drop k chunk) none; within = omega arith; table = refl; fuel = λ _. omega arith; records = fits };
@@ -98,11 +98,11 @@ module _ (chunk : List ℕ) (t : Table) (n : ℕ) (d : List ℕ) where
   pub ends : (k : ℕ) (r : Run) → Under k r → r .going ≡ false → ChunkListed chunk t n d (progressOf r) (r .table) (outOf r)
   ends k r u e =
       record {
-        at = ap (λ (x : Part Said Table). length chunk - length (x .rest)) all;
-        put = ap (λ (x : Part Said Table). length (linesAfter n (x .said))) all;
-        records = ap (λ (x : Part Said Table). numberAfter n (x .said)) all;
-        table = ap (λ (x : Part Said Table). x .state) all;
-        out = ap (λ (x : Part Said Table). sets d 0 (linesAfter n (x .said))) all;
+        at = ap (λ (x : ChunkWalk Said Table). length chunk - length (x .rest)) all;
+        put = ap (λ (x : ChunkWalk Said Table). length (linesAfter n (x .said))) all;
+        records = ap (λ (x : ChunkWalk Said Table). numberAfter n (x .said)) all;
+        table = ap (λ (x : ChunkWalk Said Table). x .state) all;
+        out = ap (λ (x : ChunkWalk Said Table). sets d 0 (linesAfter n (x .said))) all;
         at-within = omega arith;
         put-within = u .put;
       }
@@ -212,13 +212,13 @@ module _ (chunk : List ℕ) (t : Table) (n : ℕ) (d : List ℕ) where
         passes size (sized (r .rest) size held at-front) (s .0) (s .1) (length-after (r .table) (take size (r .rest)) held) e on
 
     -- the run afterwards comes to the same
-    same-part : (b : Bool) (f : Front) → inTurns k (after b f) ≡ cond b (partBy step (partFrom step k ready) (r .said) (r .rest) (r .table) f) (stop r)
+    same-part : (b : Bool) (f : Front) → inTurns k (after b f) ≡ cond b (walkChunkBy step (walkChunkFrom step k ready) (r .said) (r .rest) (r .table) f) (stop r)
     same-part false f = refl
     same-part true end = refl
     same-part true cut = refl
     same-part true (whole size held) = refl
 
-  picks : (b : Bool) → b ≡ true → (x y z : Part Said Table) → cond b x y ≡ z → x ≡ z
+  picks : (b : Bool) → b ≡ true → (x y z : ChunkWalk Said Table) → cond b x y ≡ z → x ≡ z
   picks true e x y z h = h
   picks false e x y z h = absurd (subst T (sym e) tt)
 
@@ -249,7 +249,7 @@ module _ (chunk : List ℕ) (t : Table) (n : ℕ) (d : List ℕ) where
       pub front-fits : here .at + sizeAhead f ≤ length chunk
       front-fits = subst (λ (x : Front). here .at + sizeAhead x ≤ length chunk) (sym is-front) (is-turned .fits)
 
-      module _ (bytes : List ℕ) (is-bytes : bytes ≡ partAt (here .at) (sizeAhead f) chunk) (held : Held) (is-held : held ≡ heldAhead f) where
+      module _ (bytes : List ℕ) (is-bytes : bytes ≡ part (here .at) (sizeAhead f) chunk) (held : Held) (is-held : held ≡ heldAhead f) where
         is-step : step (r .table) bytes held ≡ says
         is-step = (λ i. step (r .table) (is-bytes i) (is-held i)) ∙ (λ i. step (r .table) (take (sizeAhead (is-front i)) (sym (u .shape .rest) i)) (heldAhead (is-front i)))
 
@@ -273,11 +273,11 @@ module _ (chunk : List ℕ) (t : Table) (n : ℕ) (d : List ℕ) where
           same-out = ap (λ (x : Cursor × List ℕ). x .1) same-given ∙ is-turned .out
 
           pub under : (here .put ≤ length (outOf r) → given .0 .put ≤ length (given .1)) → Under k onward
-          unfolding partFrom
+          unfolding walkChunkFrom
           under bound =
               record {
                 shape = is-turned .shape;
-                onward = same-part k r (u .shape) b (entryOf (r .rest)) ∙ picks (r .going) on (partFrom step (suc k) ready (r .said) (r .rest) (r .table)) (stop r) (chunked chunk t n (length d)) (u .onward);
+                onward = same-part k r (u .shape) b (entryOf (r .rest)) ∙ picks (r .going) on (walkChunkFrom step (suc k) ready (r .said) (r .rest) (r .table)) (stop r) (chunked chunk t n (length d)) (u .onward);
                 put = omega (arith, put-in);
               }
             where

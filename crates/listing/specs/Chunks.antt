@@ -4,15 +4,15 @@ use mathlib.Core.Path.{_≡_}
 use mathlib.Core.List.{List}
 use lib.ListN.{length}
 use lib.Seq.{sets}
-use Rattle.capture.specs.Walk.{Part, part}
+use Rattle.capture.specs.Walk.{ChunkWalk, walkChunk}
 use Rattle.table.specs.Table.{Table}
 use Rattle.lines.specs.Placing.{roomy}
 use Rattle.listing.specs.declared.chunk.Progress.{Progress}
 use Rattle.listing.specs.Listing.{Said, step, linesAfter, numberAfter}
 
 -- the chunk, after n records, with the table t and an output of so many bytes
-unfoldable pub chunked : List ℕ → Table → ℕ → ℕ → Part Said Table
-chunked chunk t n room = part step (λ said. roomy room (length (linesAfter n said))) chunk t
+unfoldable pub chunked : List ℕ → Table → ℕ → ℕ → ChunkWalk Said Table
+chunked chunk t n room = walkChunk step (λ said. roomy room (length (linesAfter n said))) chunk t
 
 -- ---- What a call has listed of a chunk
 

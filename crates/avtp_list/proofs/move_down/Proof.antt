@@ -2,9 +2,8 @@ use Prim.Native.Nat.{ℕ, suc, _+_, _≤_, _<_, _-_}
 use mathlib.Core.Path.{_≡_, refl, sym, ap, _∙_}
 use mathlib.Core.List.{List, [], _∷_}
 use native.Mathlib.Omega.{arith}
-use mathlib.Core.List.{_++_}
 use lib.ListN.{length, take, drop, getD, set, length-drop, length-set}
-use lib.Seq.{sets, getD-set-other, getD-drop, length-take-le, sets-eq, take-append-seam}
+use lib.Seq.{sets, getD-set-other, getD-drop, length-take-le}
 use denote.Ref.{now}
 use borrow.Author.Needs.{needs}
 use Rattle.text.proofs.Sets.{sets-more}
@@ -29,14 +28,6 @@ module _ (d : List ℕ) (from : ℕ) where
       let one : i - from + 1 ≡ i + 1 - from = omega arith in
       ap (λ (v : ℕ). set x (i - from) v) read ∙ ap (λ (y : List ℕ). set y (i - from) (getD (drop from d) (i - from) 0)) e
       ∙ ap (λ (k : ℕ). set (sets d 0 (take (i - from) (drop from d))) k (getD (drop from d) (i - from) 0)) zero ∙ sets-more d 0 (drop from d) (i - from) short ∙ ap (λ (n : ℕ). sets d 0 (take n (drop from d))) one
-
-  in-front : (n : ℕ) → from + n ≤ length d → take n (sets d 0 (take n (drop from d))) ≡ take n (drop from d)
-  in-front n h =
-      let l = length-drop from d in
-      let len : length (take n (drop from d)) ≡ n = length-take-le n (drop from d) (omega arith) in
-      ap (take n) (sets-eq (take n (drop from d)) d 0 (omega arith))
-      ∙ ap (λ (m : ℕ). take m (take n (drop from d) ++ drop (0 + length (take n (drop from d))) d)) (sym len)
-      ∙ take-append-seam (take n (drop from d)) _
 
 abbrev Inv-loop : tie.InvT-loop
 Inv-loop input₀ from have i₀ input i = (from ≤ i) × (i ≤ have) × (length input ≡ length input₀) × (input ≡ sets input₀ 0 (take (i - from) (drop from input₀)))
@@ -79,7 +70,7 @@ returns c =
     let l = c .before .loop in
     let a = c .before .before .args in
     let e : l .i ≡ a .have = omega arith in
-    ap (take (a .have - a .from)) (l .inv .3 ∙ ap (λ (i : ℕ). sets (now (a .input)) 0 (take (i - a .from) (drop (a .from) (now (a .input))))) e) ∙ in-front (now (a .input)) (a .from) (a .have - a .from) (omega arith)
+    l .inv .3 ∙ ap (λ (i : ℕ). sets (now (a .input)) 0 (take (i - a .from) (drop (a .from) (now (a .input))))) e
 
 pub move-down-spec : {M : Type 1} → statement M
 move-down-spec =

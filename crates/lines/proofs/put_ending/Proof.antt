@@ -1,4 +1,7 @@
 use mathlib.Core.Bool.{true, false}
+use native.Mathlib.Omega.{arith}
+use borrow.Author.Tests.{lt-ltb, le-ltb}
+use lib.Dec.{ltb}
 use denote.Ref.{now}
 use borrow.Author.Needs.{needs}
 use Rattle.lines.specs.Lines.{ending}
@@ -10,7 +13,7 @@ use Rattle.lines.proofs.put_ending.Tie as tie
 returns : tie.Need-returns
 returns c =
     let a = c .before .before .before .args in
-    not-placed (now (a .out)) (a .at) (c .before .roomy .ensures) (ending (a .cut) (a .records)) (c .if1 .taken)
+    not-placed (now (a .out)) (a .at) (c .before .roomy .ensures) (ending (ltb 0 (a .left)) (a .records)) (c .if1 .taken)
 
 returns-2 : tie.Need-returns-2
 returns-2 c =
@@ -18,7 +21,7 @@ returns-2 c =
     let asked = done .before .before .before in
     let start = asked .before .before .before in
     let a = start .args in
-    rw (done .before .before .if2 .taken) (placed (now (a .out)) (a .at) (asked .before .roomy .ensures) (asked .if1 .left) (done .put-cut .ensures) (ending-length true (a .records) (start .fits .records .fits)))
+    rw (lt-ltb 0 (a .left) (done .before .before .if2 .taken)) (placed (now (a .out)) (a .at) (asked .before .roomy .ensures) (asked .if1 .left) (done .put-cut .ensures) (ending-length true (a .records) (start .fits .records .fits)))
 
 returns-3 : tie.Need-returns-3
 unfolding ending
@@ -27,7 +30,7 @@ returns-3 c =
     let asked = done .before .before .before in
     let start = asked .before .before .before in
     let a = start .args in
-    rw (done .before .before .if2 .left) (placed (now (a .out)) (a .at) (asked .before .roomy .ensures) (asked .if1 .left) (done .put-last .ensures) (ending-length false (a .records) (start .fits .records .fits)))
+    rw (le-ltb 0 (a .left) (omega arith)) (placed (now (a .out)) (a .at) (asked .before .roomy .ensures) (asked .if1 .left) (done .put-last .ensures) (ending-length false (a .records) (start .fits .records .fits)))
 
 pub put-ending-spec : {M : Type 1} → statement M
 put-ending-spec =
