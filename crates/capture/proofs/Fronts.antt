@@ -1,6 +1,6 @@
 -- What stands at the front by the tests on the way, and what each case of it says of the bytes. Assumes nothing.
-use Prim.Native.Nat.{ℕ, _+_, _≤_, _<_}
-use mathlib.Core.Path.{_≡_, refl}
+use Prim.Native.Nat.{ℕ, zero, suc, _+_, _≤_, _<_}
+use mathlib.Core.Path.{_≡_, refl, sym}
 use mathlib.Core.Bool.{Bool, true, false, cond}
 use mathlib.Core.List.{List}
 use native.Mathlib.Omega.{arith}
@@ -9,7 +9,8 @@ use lib.Dec.{eqb, ltb}
 use lib.ListN.{length}
 use Rattle.refusal.specs.Refusals.{firstOf}
 use Rattle.capture.specs.Sizes.{RecordSizes}
-use Rattle.capture.specs.Records.{Held, refused, end, cut, whole, lengthOf, kindOf, sizeOf, bodyOf, wrongLength, unknownKind, recordChecks, heldBy, frontBy, entryOf}
+use Rattle.capture.specs.Numbers.{heldNumber, frontNumber, RecordNumbers}
+use Rattle.capture.specs.Records.{Held, damaged, arrival, admission, removal, end, cut, whole, lengthOf, kindOf, sizeOf, bodyOf, wrongLength, unknownKind, recordChecks, heldBy, frontBy, entryOf}
 
 -- a length n and a kind k were read, and something is left
 module _ (rest : List ℕ) {n k : ℕ} (some : length rest ≡ 0 → ⊥) (en : n ≡ lengthOf rest) (ek : k ≡ kindOf rest) where
@@ -18,12 +19,12 @@ module _ (rest : List ℕ) {n k : ℕ} (some : length rest ≡ 0 → ⊥) (en : 
   short h = rw (ne-eqb (length rest) 0 some, ← en, lt-ltb (length rest) (2 + n) h)
 
   module _ (all : 2 + n ≤ length rest) where
-    pub wrong : true ≡ wrongLength n k → whole (2 + n) (refused 42) ≡ entryOf rest
+    pub wrong : true ≡ wrongLength n k → whole (2 + n) (damaged 42) ≡ entryOf rest
     unfolding entryOf firstOf
     wrong e = rw (ne-eqb (length rest) 0 some, ← en, ← ek, le-ltb (length rest) (2 + n) all, ← e)
 
     module _ (right : false ≡ wrongLength n k) where
-      pub unknown : true ≡ unknownKind k → whole (2 + n) (refused 43) ≡ entryOf rest
+      pub unknown : true ≡ unknownKind k → whole (2 + n) (damaged 43) ≡ entryOf rest
       unfolding entryOf firstOf
       unknown e = rw (ne-eqb (length rest) 0 some, ← en, ← ek, le-ltb (length rest) (2 + n) all, ← right, ← e)
 
@@ -72,3 +73,24 @@ all-there rest size held e = go (eqb (length rest) 0) (ltb (length rest) (sizeOf
 
 pub sized : RecordSizes
 sized rest size held e = let p = all-there rest size held e in (omega arith, p .1)
+
+-- the number of what stands there is the first that applies
+pub numbered : RecordNumbers
+unfolding entryOf
+numbered rest some = rw (ne-eqb (length rest) 0 some) (of-front (eqb n 41) refl)
+  where
+    n : ℕ
+    n = firstOf (recordChecks rest)
+
+    of-body : (one two : Bool) (L id : ℕ) → heldNumber (cond one (arrival L) (cond two (admission id) (removal id))) ≡ 0
+    of-body true two L id = refl
+    of-body false true L id = refl
+    of-body false false L id = refl
+
+    of-held : (k : ℕ) → heldNumber (heldBy k rest) ≡ k
+    of-held zero = of-body (eqb (kindOf rest) 1) (eqb (kindOf rest) 2) _ _
+    of-held (suc k) = refl
+
+    of-front : (b : Bool) → eqb n 41 ≡ b → frontNumber (cond b cut (whole (sizeOf rest) (heldBy n rest))) ≡ n
+    of-front true e = sym (eqb-true n 41 e)
+    of-front false e = of-held n

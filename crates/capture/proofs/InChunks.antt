@@ -8,7 +8,7 @@ use borrow.Author.Needs.{zero≤}
 use borrow.Author.Tests.{eq-eqb, ne-eqb}
 use lib.ListN.{length, take, drop, length-append, length-drop}
 use lib.Seq.{take-append-le, drop-append-le, drop-drop}
-use Rattle.capture.specs.Records.{Held, refused, Front, end, cut, whole, entryOf}
+use Rattle.capture.specs.Records.{Held, damaged, Front, end, cut, whole, entryOf}
 use Rattle.capture.specs.Walk.{walkBy, walkFrom, walk, ChunkWalk, walkChunkBy, walkChunkFrom, walkChunk}
 use Rattle.capture.specs.InChunks.{Chunk, joined, unread, behind, withChunk, withChunks, walkEnd, InChunks}
 use Rattle.capture.proofs.Fronts.{end-empty, cut-some, sized}
@@ -166,7 +166,7 @@ module _ {O S : Type 0} (step : S → List ℕ → Held → O × S) where
   unfolding walk walkFrom walkChunk
   at-the-end ready left s b z = by-front (entryOf left) refl
     where
-      cut-walked : entryOf left ≡ cut → (k : ℕ) → (k ≡ 0 → ⊥) → walkFrom step k left s ≡ (step s left (refused 41) .0 ∷ [], step s left (refused 41) .1)
+      cut-walked : entryOf left ≡ cut → (k : ℕ) → (k ≡ 0 → ⊥) → walkFrom step k left s ≡ (step s left (damaged 41) .0 ∷ [], step s left (damaged 41) .1)
       cut-walked e zero h = absurd (h refl)
       cut-walked e (suc k) h = rw e
 

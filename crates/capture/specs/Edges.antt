@@ -3,7 +3,7 @@ use Prim.Native.Nat.{ℕ}
 use mathlib.Core.Path.{_≡_}
 use mathlib.Core.List.{List, [], _∷_, _++_, map}
 use lib.ListN.{replicate}
-use Rattle.capture.specs.Records.{refused, arrival, admission, removal, Front, end, cut, whole, entryOf}
+use Rattle.capture.specs.Records.{damaged, arrival, admission, removal, Front, end, cut, whole, entryOf}
 
 pub record Edge : Type 0 where
   pub rest : List ℕ
@@ -19,19 +19,19 @@ recordEdges =
     ∷ edge (0 ∷ []) cut
     ∷ edge (2 ∷ 0 ∷ 1 ∷ []) cut
     -- lengths 0 and 1, whatever comes after the record
-    ∷ edge (0 ∷ 0 ∷ 2 ∷ 0 ∷ []) (whole 2 (refused 42))
-    ∷ edge (1 ∷ 0 ∷ 1 ∷ []) (whole 3 (refused 42))
+    ∷ edge (0 ∷ 0 ∷ 2 ∷ 0 ∷ []) (whole 2 (damaged 42))
+    ∷ edge (1 ∷ 0 ∷ 1 ∷ []) (whole 3 (damaged 42))
     -- kind 1 of lengths 9 and 10, L 1000, with no byte of a frame; kind 2 of length 11
-    ∷ edge (9 ∷ 0 ∷ 1 ∷ 0 ∷ replicate 7 0) (whole 11 (refused 42))
+    ∷ edge (9 ∷ 0 ∷ 1 ∷ 0 ∷ replicate 7 0) (whole 11 (damaged 42))
     ∷ edge (10 ∷ 0 ∷ 1 ∷ 0 ∷ 232 ∷ 3 ∷ replicate 6 0) (whole 12 (arrival 1000))
-    ∷ edge (11 ∷ 0 ∷ 2 ∷ 0 ∷ replicate 9 0) (whole 13 (refused 42))
+    ∷ edge (11 ∷ 0 ∷ 2 ∷ 0 ∷ replicate 9 0) (whole 13 (damaged 42))
     -- id 1 admitted and removed, with more bytes behind the record
     ∷ edge (10 ∷ 0 ∷ 2 ∷ 0 ∷ replicate 7 0 ++ (1 ∷ 9 ∷ [])) (whole 12 (admission 1))
     ∷ edge (10 ∷ 0 ∷ 3 ∷ 0 ∷ replicate 7 0 ++ (1 ∷ 9 ∷ [])) (whole 12 (removal 1))
     -- kinds 0, 4 and 256
-    ∷ edge (2 ∷ 0 ∷ 0 ∷ 0 ∷ []) (whole 4 (refused 43))
-    ∷ edge (2 ∷ 0 ∷ 4 ∷ 0 ∷ []) (whole 4 (refused 43))
-    ∷ edge (3 ∷ 0 ∷ 0 ∷ 1 ∷ 7 ∷ []) (whole 5 (refused 43))
+    ∷ edge (2 ∷ 0 ∷ 0 ∷ 0 ∷ []) (whole 4 (damaged 43))
+    ∷ edge (2 ∷ 0 ∷ 4 ∷ 0 ∷ []) (whole 4 (damaged 43))
+    ∷ edge (3 ∷ 0 ∷ 0 ∷ 1 ∷ 7 ∷ []) (whole 5 (damaged 43))
     ∷ []
 
 abbrev pub RecordEdges : Type 0

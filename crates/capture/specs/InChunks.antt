@@ -5,7 +5,7 @@ use mathlib.Core.Bool.{Bool, true, cond}
 use mathlib.Core.List.{List, [], _∷_, _++_}
 use lib.Dec.{eqb}
 use lib.ListN.{length, drop}
-use Rattle.capture.specs.Records.{Held, refused}
+use Rattle.capture.specs.Records.{Held, damaged}
 use Rattle.capture.specs.Walk.{walkFrom, walk, ChunkWalk, walkChunkFrom, walkChunk}
 
 -- ---- A capture in chunks
@@ -41,7 +41,7 @@ module _ {O S : Type 0} (step : S → List ℕ → Held → O × S) where
 
   -- what is left to walk where a capture ends with bytes that are no whole record, or with none
   abbrev pub walkEnd : List ℕ → S → List O × S
-  walkEnd left s = cond (eqb (length left) 0) ([], s) (step s left (refused 41) .0 ∷ [], step s left (refused 41) .1)
+  walkEnd left s = cond (eqb (length left) 0) ([], s) (step s left (damaged 41) .0 ∷ [], step s left (damaged 41) .1)
 
 -- ---- The claim, for a step
 

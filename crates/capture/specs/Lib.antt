@@ -1,4 +1,5 @@
 pub mod Records
+pub mod Numbers
 pub mod Sizes
 pub mod Parts
 pub mod Edges

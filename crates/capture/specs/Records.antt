@@ -15,8 +15,8 @@ use Rattle.capture.specs.declared.Content.the-variants.{Refused, Frame, 
 
 -- what a whole record holds
 pub data Held : Type 0 where
-  -- a refusal, which has document 01's number
-  refused : ℕ → Held
+  -- damaged: refused, with document 01's number
+  damaged : ℕ → Held
   -- a frame with its arrival time L
   arrival : ℕ → Held
   -- the id of a stream to admit, and to remove
@@ -34,7 +34,7 @@ pub data Front : Type 0 where
 
 -- what each case of the answer says
 abbrev pub heldOf : Content → Held
-heldOf (Refused r) = refused (numberOf r)
+heldOf (Refused r) = damaged (numberOf r)
 heldOf (Frame L) = arrival L
 heldOf (Admit id) = admission id
 heldOf (Remove id) = removal id
@@ -85,7 +85,7 @@ recordChecks rest =
 
 -- what a record holds by the number answered, 0 where there is none
 abbrev pub heldBy : ℕ → List ℕ → Held
-heldBy number rest = ifAccepted number (bodyOf (kindOf rest) rest) (refused number)
+heldBy number rest = ifAccepted number (bodyOf (kindOf rest) rest) (damaged number)
 
 -- after 41 reading ends; a record answered 42 or above is skipped whole
 abbrev pub frontBy : ℕ → List ℕ → Front

@@ -1,10 +1,10 @@
 -- Going through the records of a capture with a state S. What a record makes of the state, and what is said of it, is a step: it is given the
--- state, the record's bytes and what the record holds. A record that is cut is all that is left, and holds `refused 41`.
+-- state, the record's bytes and what the record holds. A record that is cut is all that is left, and holds `damaged 41`.
 use Prim.Native.Nat.{ℕ, zero, suc}
 use mathlib.Core.Bool.{Bool, cond}
 use mathlib.Core.List.{List, [], _∷_, _++_}
 use lib.ListN.{length, take, drop}
-use Rattle.capture.specs.Records.{Held, refused, Front, end, cut, whole, entryOf}
+use Rattle.capture.specs.Records.{Held, damaged, Front, end, cut, whole, entryOf}
 
 -- ---- A whole capture
 
@@ -12,7 +12,7 @@ module _ {O S : Type 0} (step : S → List ℕ → Held → O × S) where
   -- what stands at the front of the bytes that remain, given the walk from the next record on
   abbrev pub walkBy : (List ℕ → S → List O × S) → List ℕ → S → Front → List O × S
   walkBy onward rest s end = ([], s)
-  walkBy onward rest s cut = (step s rest (refused 41) .0 ∷ [], step s rest (refused 41) .1)
+  walkBy onward rest s cut = (step s rest (damaged 41) .0 ∷ [], step s rest (damaged 41) .1)
   walkBy onward rest s (whole size held) =
       let a = step s (take size rest) held in
       let b = onward (drop size rest) (a .1) in

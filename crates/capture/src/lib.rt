@@ -1,10 +1,12 @@
 // A capture's records, one at a time: what stands at the front of the bytes that remain of it.
 use refusal::Refusal;
 ghost use mathlib.Core.Path.{_≡_};
+ghost use Prim.Native.Nat.{_≤_};
 ghost use lib.ListN.{length};
 ghost use denote.Ref.{ptr};
 ghost use Rattle.wire.specs.Parts.{StandsIn};
 ghost use Rattle.capture.specs.Records.{heldOf, frontOf, entryOf, wrongLength, unknownKind, bodyOf, frameIn};
+ghost use Rattle.capture.specs.Numbers.{RecordNumbers};
 ghost use Rattle.capture.specs.Sizes.{RecordSizes};
 ghost use Rattle.capture.specs.Parts.{ReadInParts};
 ghost use Rattle.capture.specs.Edges.{RecordEdges};
@@ -94,7 +96,7 @@ pub fn next_record(capture: &[u8]) -> Entry
 // The frame in a record of kind 1, the part of it behind its arrival time.
 pub fn frame_in(record: &[u8]) -> &[u8]
     ensures { λ r. ⌜ now r ≡ frameIn (now («record» .entry)) ⌝ }
-    ensures { λ r. ⌜ StandsIn (ptr («record» .entry)) 12 (ptr r) (length (now r)) ⌝ }
+    ensures { λ r. ⌜ StandsIn (ptr («record» .entry)) 12 (ptr r) (12 ≤ length (now («record» .entry))) ⌝ }
 {
     if record.len() < 12 {
         return &record[..0];
@@ -115,6 +117,11 @@ fn read_in_parts()
 // The rules at their edges.
 fn record_edges()
     ensures { λ _. ⌜ RecordEdges ⌝ }
+{}
+
+// What stands at the front has the first number that applies to it.
+fn record_numbers()
+    ensures { λ _. ⌜ RecordNumbers ⌝ }
 {}
 
 // Going through a capture in any chunks is going through it whole.

@@ -16,17 +16,25 @@ use Rattle.refusal.specs.declared.Verdict.the-variants as verdict
 use Rattle.frame.specs.Layout.{headerOf, cipOf, fieldsOf}
 use Rattle.refusal.specs.Refusals.{verdictNumber, numberOf, firstOf}
 use Rattle.frame.specs.Checks.{lengthChecks, headerChecks, blockChecks, frameChecks, refusal}
-use Rattle.frame.specs.Reading.{ReadAnswer, reading, readAnswer, payloadOf, dataOf}
+use Rattle.frame.specs.Reading.{ReadAnswer, reading, readAnswer, payloadOf, dataOf, DataThere, DataIsPayload}
 use Rattle.refusal.proofs.First.{positive, stop, go}
 use Rattle.frame.proofs.Groups.{read-then, accepted-room}
 
--- the data of an accepted frame is in it, and is its payload
+-- the data of an accepted frame is in it
+data-there : (frame : List ℕ) → refusal frame ≡ 0 → DataThere frame (fieldsOf frame .header .stream .«data_length»)
+unfolding refusal frameChecks
+data-there frame e = let h = accepted-room (length frame) (fieldsOf frame) e in (h .0, omega (arith, h .1))
+
+-- and is its payload
 pub data-payload : (frame : List ℕ) → refusal frame ≡ 0 → dataOf frame (fieldsOf frame .header .stream .«data_length») ≡ payloadOf frame
 unfolding refusal frameChecks dataOf payloadOf
 data-payload frame e =
     let n = fieldsOf frame .header .stream .«data_length» in
     let h : (8 ≤ n) × (n + 42 ≤ length frame) = accepted-room (length frame) (fieldsOf frame) e in
     rw (le-ltb n 8 (h .0), le-ltb (length frame) (42 + n) (omega arith), e)
+
+pub data-is-payload : DataIsPayload
+data-is-payload frame e = (data-there frame e, data-payload frame e)
 
 module _ (frame : List ℕ) where
   -- from the rules to the answer
@@ -76,6 +84,9 @@ module _ (frame : List ℕ) where
       pub accepted-fields : f ≡ fieldsOf frame
       unfolding reading
       accepted-fields = ap (λ (y : Reading). readAnswer y .fields) (sym z) ∙ ap (λ (a : ReadAnswer). a .fields) e ∙ rw accepted-number
+
+      pub accepted-there : DataThere frame (f .header .stream .«data_length»)
+      accepted-there = rw accepted-fields (data-there frame accepted-number)
 
       pub accepted-payload : dataOf frame (f .header .stream .«data_length») ≡ payloadOf frame
       accepted-payload = rw accepted-fields (data-payload frame accepted-number)

@@ -1,5 +1,6 @@
 -- What is answered to a frame: its fields and its payload, or a number (document 01, Frame layout and Numbers answered).
-use Prim.Native.Nat.{ℕ, _+_, _-_, _/_}
+use Prim.Native.Nat.{ℕ, _+_, _-_, _/_, _≤_}
+use mathlib.Core.Path.{_≡_}
 use mathlib.Core.Bool.{false, _||_, cond}
 use mathlib.Core.List.{List, []}
 use lib.Dec.{ltb}
@@ -49,6 +50,16 @@ payloadOf frame = ifAccepted (refusal frame) (part 50 (fieldsOf frame .header .s
 -- the same part by a stream_data_length that is known already; nothing where the frame has no such part
 unfoldable pub dataOf : List ℕ → ℕ → List ℕ
 dataOf frame n = cond (ltb n 8 || ltb (length frame) (42 + n)) [] (part 50 (n - 8) frame)
+
+-- the frame has such a part
+abbrev pub DataThere : List ℕ → ℕ → Type 0
+DataThere frame n = (8 ≤ n) × (42 + n ≤ length frame)
+
+-- of an accepted frame it is the payload
+abbrev pub DataIsPayload : Type 0
+DataIsPayload =
+    (frame : List ℕ) → refusal frame ≡ 0
+    → (let n = fieldsOf frame .header .stream .«data_length» in DataThere frame n × (dataOf frame n ≡ payloadOf frame))
 
 -- the blocks of a payload
 unfoldable pub blocksOf : List ℕ → ℕ → ℕ

@@ -90,7 +90,7 @@ fn check_stream(n: usize, s: Stream) -> Verdict
 }
 
 // The bytes of a block. DBS 0 stands for 256 quadlets.
-pub fn block_bytes(dbs: u8) -> usize
+pub(crate) fn block_bytes(dbs: u8) -> usize
     ensures { λ r. ⌜ r ≡ blockBytes dbs ⌝ }
 {
     if dbs == 0 {

@@ -7,11 +7,12 @@ use layout::Fields;
 use refusal::Refusal;
 use refusal::Verdict;
 ghost use mathlib.Core.Path.{_≡_};
-ghost use lib.ListN.{length, replicate};
+ghost use lib.ListN.{replicate};
 ghost use denote.Ref.{ptr};
 ghost use Rattle.wire.specs.Parts.{StandsIn};
-ghost use Rattle.frame.specs.Reading.{noFields, reading, readAnswer, dataOf, payloadOf, blocksOf};
+ghost use Rattle.frame.specs.Reading.{noFields, reading, readAnswer, dataOf, DataThere, DataIsPayload, payloadOf, blocksOf};
 ghost use Rattle.frame.specs.Layout.{fieldsOf};
+ghost use Rattle.frame.specs.Checks.{refusal};
 ghost use Rattle.frame.specs.Ignored.{IgnoredBits};
 
 pub enum Reading {
@@ -44,7 +45,7 @@ pub fn read(frame: &[u8]) -> Reading
 // read the frame already.
 pub fn data(frame: &[u8], data_length: u16) -> &[u8]
     ensures { λ r. ⌜ now r ≡ dataOf (now (frame .entry)) «data_length» ⌝ }
-    ensures { λ r. ⌜ StandsIn (ptr (frame .entry)) 50 (ptr r) (length (now r)) ⌝ }
+    ensures { λ r. ⌜ StandsIn (ptr (frame .entry)) 50 (ptr r) (DataThere (now (frame .entry)) «data_length») ⌝ }
 {
     if data_length < 8 {
         return &frame[..0];
@@ -59,7 +60,7 @@ pub fn data(frame: &[u8], data_length: u16) -> &[u8]
 // The part of the frame that is its payload; empty where the frame is refused.
 pub fn payload(frame: &[u8]) -> &[u8]
     ensures { λ r. ⌜ now r ≡ payloadOf (now (frame .entry)) ⌝ }
-    ensures { λ r. ⌜ StandsIn (ptr (frame .entry)) 50 (ptr r) (length (now r)) ⌝ }
+    ensures { λ r. ⌜ StandsIn (ptr (frame .entry)) 50 (ptr r) (refusal (now (frame .entry)) ≡ 0) ⌝ }
 {
     let Reading::Accepted(fields) = read(frame) else {
         return &frame[..0];
@@ -73,6 +74,11 @@ pub fn blocks(payload: &[u8], dbs: u8) -> usize
 {
     payload.len() / checks::block_bytes(dbs)
 }
+
+// For an accepted frame `data` and `payload` give the same.
+fn data_is_payload()
+    ensures { λ _. ⌜ DataIsPayload ⌝ }
+{}
 
 // The fields of a refused answer, zero or no, are those of fifty zero bytes.
 fn refused_fields()

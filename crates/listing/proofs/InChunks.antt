@@ -7,7 +7,7 @@ use native.Mathlib.Omega.{arith}
 use borrow.Author.Tests.{eqb-true, eqb-false, lt-ltb, le-ltb}
 use lib.Dec.{eqb, ltb}
 use lib.ListN.{length, replicate}
-use Rattle.capture.specs.Records.{refused}
+use Rattle.capture.specs.Records.{damaged}
 use Rattle.capture.specs.Walk.{ChunkWalk, walk}
 use Rattle.capture.specs.InChunks as walked
 use Rattle.capture.proofs.InChunks.{in-chunks as walked-in-chunks}
@@ -17,7 +17,7 @@ use Rattle.lines.specs.Lines.{startLine, endLine, ending}
 use Rattle.lines.specs.Placing.{roomy}
 use Rattle.listing.specs.Listing.{Said, step, visit, linesAfter, numberAfter, listing}
 use Rattle.listing.specs.Chunks.{chunked}
-use Rattle.listing.specs.InChunks.{Chunk, joined, Run, unread, withChunk, withChunks, ListedAs, InChunks}
+use Rattle.listing.specs.InChunks.{LentChunk, captureOf, Run, unlisted, listChunk, listChunks, ListedAs, ListedInChunks}
 use Rattle.listing.proofs.Lines.{lines-append, number-append, lines-more, number-more}
 
 -- a capture that has been gone through so far, as it is listed
@@ -25,29 +25,29 @@ abbrev shown : ChunkWalk Said Table → Run
 shown p = record { rest = p .rest; text = linesAfter 0 (p .said); records = numberAfter 0 (p .said); table = p .state }
 
 -- a chunk with its room, by what was said before it and of it
-abbrev roomFor : Chunk → walked.Chunk Said
+abbrev roomFor : LentChunk → walked.Chunk Said
 roomFor c = record { bytes = c .bytes; ready = λ before said. roomy (c .room) (length (linesAfter (numberAfter 0 before) said)) }
 
-same-capture : (cs : List Chunk) → joined cs ≡ walked.joined (map roomFor cs)
-unfolding joined walked.joined
+same-capture : (cs : List LentChunk) → captureOf cs ≡ walked.joined (map roomFor cs)
+unfolding captureOf walked.joined
 same-capture [] = refl
 same-capture (c ∷ cs) = ap (λ (l : List ℕ). c .bytes ++ l) (same-capture cs)
 
-shown-chunk : (p : ChunkWalk Said Table) (c : Chunk) → withChunk (shown p) c ≡ shown (walked.withChunk step p (roomFor c))
-unfolding withChunk walked.withChunk chunked
+shown-chunk : (p : ChunkWalk Said Table) (c : LentChunk) → listChunk (shown p) c ≡ shown (walked.withChunk step p (roomFor c))
+unfolding listChunk walked.withChunk chunked
 shown-chunk p c =
     let q = chunked (p .rest ++ c .bytes) (p .state) (numberAfter 0 (p .said)) (c .room) in
     λ i. record { rest = q .rest; text = sym (lines-append 0 (p .said) (q .said)) i; records = sym (number-append 0 (p .said) (q .said)) i; table = q .state }
 
-shown-chunks : (cs : List Chunk) (p : ChunkWalk Said Table) → withChunks (shown p) cs ≡ shown (walked.withChunks step p (map roomFor cs))
-unfolding withChunks walked.withChunks
+shown-chunks : (cs : List LentChunk) (p : ChunkWalk Said Table) → listChunks (shown p) cs ≡ shown (walked.withChunks step p (map roomFor cs))
+unfolding listChunks walked.withChunks
 shown-chunks [] p = refl
-shown-chunks (c ∷ cs) p = ap (λ (r : Run). withChunks r cs) (shown-chunk p c) ∙ shown-chunks cs (walked.withChunk step p (roomFor c))
+shown-chunks (c ∷ cs) p = ap (λ (r : Run). listChunks r cs) (shown-chunk p c) ∙ shown-chunks cs (walked.withChunk step p (roomFor c))
 
 -- the end of a capture, as it is listed
 module _ (said : List Said) (left : List ℕ) (t : Table) where
   abbrev all : Bool → List Said × Table
-  all b = walked.behind said (cond b ([], t) (step t left (refused 41) .0 ∷ [], step t left (refused 41) .1))
+  all b = walked.behind said (cond b ([], t) (step t left (damaged 41) .0 ∷ [], step t left (damaged 41) .1))
 
   end-by : (b : Bool) → eqb (length left) 0 ≡ b
       → (linesAfter 0 (all b .0) ++ endLine (numberAfter 0 (all b .0)) ≡ linesAfter 0 said ++ ending (ltb 0 (length left)) (numberAfter 0 said)) × (all b .1 ≡ t)
@@ -55,23 +55,23 @@ module _ (said : List Said) (left : List ℕ) (t : Table) where
   end-by true e = let h = eqb-true (length left) 0 e in (rw (append-nil said, le-ltb 0 (length left) (omega arith)), refl)
   end-by false e =
       let h = eqb-false (length left) 0 e in
-      let x = step t left (refused 41) .0 in
+      let x = step t left (damaged 41) .0 in
       (rw (lt-ltb 0 (length left) (omega arith), lines-more 0 said x, number-more 0 said x) (append-assoc (linesAfter 0 said) _ _), refl)
 
-module _ (cs : List Chunk) (room : ℕ) (fits : roomy room 0 ≡ true) where
+module _ (cs : List LentChunk) (room : ℕ) (fits : roomy room 0 ≡ true) where
   abbrev p : ChunkWalk Said Table
   p = walked.withChunks step (walked.unread (replicate 64 unused)) (map roomFor cs)
 
   -- the claim at a run
   abbrev At : Run → Type 0
   At r = length (chunked (r .rest) (r .table) (r .records) room .rest) ≡ length (r .rest)
-      → ListedAs (joined cs) (startLine ++ (r .text ++ ending (ltb 0 (length (r .rest))) (r .records))) (r .table)
+      → ListedAs (captureOf cs) (startLine ++ (r .text ++ ending (ltb 0 (length (r .rest))) (r .records))) (r .table)
 
   at-shown : At (shown p)
   unfolding chunked visit listing linesAfter
   at-shown z =
       let e = end-by (p .said) (p .rest) (p .state) (eqb (length (p .rest)) 0) refl in
-      let w : visit (joined cs) ≡ all (p .said) (p .rest) (p .state) (eqb (length (p .rest)) 0) =
+      let w : visit (captureOf cs) ≡ all (p .said) (p .rest) (p .state) (eqb (length (p .rest)) 0) =
       ap (λ (l : List ℕ). walk step l (replicate 64 unused)) (same-capture cs)
       ∙ walked-in-chunks step .whole-capture (map roomFor cs) (replicate 64 unused) (λ said. roomy room (length (linesAfter (numberAfter 0 (p .said)) said))) fits z in
       record {
@@ -79,9 +79,9 @@ module _ (cs : List Chunk) (room : ℕ) (fits : roomy room 0 ≡ true) where
         table = ap (λ (x : List Said × Table). x .1) w ∙ e .1;
       }
 
-  whole-capture : At (withChunks unread cs)
+  whole-capture : At (listChunks unlisted cs)
   unfolding linesAfter numberAfter
   whole-capture = subst At (sym (shown-chunks cs (walked.unread (replicate 64 unused)))) at-shown
 
-pub in-chunks : InChunks
+pub in-chunks : ListedInChunks
 in-chunks = record { whole-capture = whole-capture; walked = walked-in-chunks step }

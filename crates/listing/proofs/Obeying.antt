@@ -3,7 +3,7 @@ use Prim.Native.Nat.{ℕ}
 use mathlib.Core.Path.{_≡_, refl, ap, _∙_}
 use mathlib.Core.List.{List, []}
 use lib.ListN.{length}
-use Rattle.capture.specs.Records.{Held, refused, arrival, admission, removal, frameIn}
+use Rattle.capture.specs.Records.{Held, damaged, arrival, admission, removal, frameIn}
 use Rattle.stream.specs.declared.Receipt.{Receipt}
 use Rattle.stream.specs.declared.Receipt.the-variants as receipt
 use Rattle.stream.specs.Answers.{Answer, receiptAnswer}
@@ -17,7 +17,7 @@ use Rattle.listing.specs.Private.{Obeyed}
 
 -- ---- the table stays as long as it was
 pub length-after : (t : Table) (bytes : List ℕ) (h : Held) → length (step t bytes h .1) ≡ length t
-length-after t bytes (refused number) = refl
+length-after t bytes (damaged number) = refl
 length-after t bytes (arrival L) = length-receive t (frameIn bytes) L
 length-after t bytes (admission id) = length-admit t id
 length-after t bytes (removal id) = length-remove t id

@@ -16,14 +16,14 @@ use Rattle.listing.specs.Chunks.{chunked}
 -- ---- A capture in chunks
 
 -- a chunk, and the bytes of the output that it is listed into
-pub record Chunk : Type 0 where
+pub record LentChunk : Type 0 where
   pub bytes : List ℕ
   pub room : ℕ
 
 -- the capture that they make
-unfoldable pub joined : List Chunk → List ℕ
-joined [] = []
-joined (c ∷ cs) = c .bytes ++ joined cs
+unfoldable pub captureOf : List LentChunk → List ℕ
+captureOf [] = []
+captureOf (c ∷ cs) = c .bytes ++ captureOf cs
 
 -- a capture under way: the bytes that are left, the text so far, the number of the last record, and the table
 pub record Run : Type 0 where
@@ -33,12 +33,12 @@ pub record Run : Type 0 where
   pub table : Table
 
 -- a capture of which nothing has been read
-abbrev pub unread : Run
-unread = record { rest = []; text = []; records = 0; table = replicate 64 unused }
+abbrev pub unlisted : Run
+unlisted = record { rest = []; text = []; records = 0; table = replicate 64 unused }
 
 -- a chunk behind what is left of those before it, with their table and count, and its text behind theirs
-unfoldable pub withChunk : Run → Chunk → Run
-withChunk r c =
+unfoldable pub listChunk : Run → LentChunk → Run
+listChunk r c =
     let now = chunked (r .rest ++ c .bytes) (r .table) (r .records) (c .room) in
     record {
       rest = now .rest;
@@ -47,9 +47,9 @@ withChunk r c =
       table = now .state;
     }
 
-unfoldable pub withChunks : Run → List Chunk → Run
-withChunks r [] = r
-withChunks r (c ∷ cs) = withChunks (withChunk r c) cs
+unfoldable pub listChunks : Run → List LentChunk → Run
+listChunks r [] = r
+listChunks r (c ∷ cs) = listChunks (listChunk r c) cs
 
 -- ---- The claim
 
@@ -58,10 +58,10 @@ pub record ListedAs (capture shown : List ℕ) (t : Table) : Type 0 where
   pub text : listing capture ≡ shown
   pub table : visit capture .1 ≡ t
 
-pub record InChunks : Type 0 where
+pub record ListedInChunks : Type 0 where
   -- the whole capture, in any chunks, empty ones too, and with any room for each: once a call that had room used nothing of what is left
-  pub whole-capture : (cs : List Chunk) (room : ℕ) → roomy room 0 ≡ true
-      → (let r = withChunks unread cs in length (chunked (r .rest) (r .table) (r .records) room .rest) ≡ length (r .rest)
-      → ListedAs (joined cs) (startLine ++ (r .text ++ ending (ltb 0 (length (r .rest))) (r .records))) (r .table))
+  pub whole-capture : (cs : List LentChunk) (room : ℕ) → roomy room 0 ≡ true
+      → (let r = listChunks unlisted cs in length (chunked (r .rest) (r .table) (r .records) room .rest) ≡ length (r .rest)
+      → ListedAs (captureOf cs) (startLine ++ (r .text ++ ending (ltb 0 (length (r .rest))) (r .records))) (r .table))
   -- what holds of going through a capture in chunks holds of this step
   pub walked : WalkInChunks step

@@ -4,7 +4,7 @@ use mathlib.Core.List.{List, [], _∷_, _++_}
 use mathlib.Core.Option.{Option, none, some}
 use lib.ListN.{replicate}
 use Rattle.refusal.specs.Refusals.{ifAccepted}
-use Rattle.capture.specs.Records.{Held, refused as damaged, arrival, admission, removal, frameIn}
+use Rattle.capture.specs.Records.{Held, damaged, arrival, admission, removal, frameIn}
 use Rattle.capture.specs.Walk.{walk}
 use Rattle.stream.specs.Records.{unused}
 use Rattle.stream.specs.Answers.{Answer}

@@ -5,7 +5,7 @@ use mathlib.Core.Bool.{true, false, cond}
 use mathlib.Core.List.{List}
 use lib.ListN.{length}
 use lib.Seq.{sets}
-use Rattle.capture.specs.Records.{Held, refused, Front, end, cut, whole}
+use Rattle.capture.specs.Records.{Held, damaged, Front, end, cut, whole}
 use Rattle.table.specs.Table.{Table}
 use Rattle.lines.specs.declared.Outcome.{Outcome}
 use Rattle.lines.specs.Lines.{lineOf, nextNumber}
@@ -23,8 +23,8 @@ sizeAhead (whole size held) = size
 
 -- what it holds; where none is whole, 41
 abbrev pub heldAhead : Front → Held
-heldAhead end = refused 41
-heldAhead cut = refused 41
+heldAhead end = damaged 41
+heldAhead cut = damaged 41
 heldAhead (whole size held) = held
 
 -- what becomes of a record with these bytes that holds h: o is what is answered, and t′ the table afterwards

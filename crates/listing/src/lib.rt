@@ -1,7 +1,7 @@
 // The listing of a capture, a chunk at a time.
 pub mod chunk;
 
-ghost use Rattle.listing.specs.InChunks.{InChunks};
+ghost use Rattle.listing.specs.InChunks.{ListedInChunks};
 ghost use Rattle.listing.specs.Example.{WorkedExample};
 
 // The rules list document 01's capture as it does.
@@ -11,5 +11,5 @@ fn worked_example()
 
 // Listing a capture in any chunks is listing it whole.
 fn in_chunks()
-    ensures { λ _. ⌜ InChunks ⌝ }
+    ensures { λ _. ⌜ ListedInChunks ⌝ }
 {}

@@ -9,10 +9,9 @@ use lib.ListN.{replicate}
 use Rattle.frame.specs.declared.layout.Fields.{Fields}
 use Rattle.frame.specs.Layout.{fieldsOf}
 use Rattle.refusal.specs.Refusals.{numberOf}
-use Rattle.frame.specs.Reading.{noFields, payloadOf, dataOf}
+use Rattle.frame.specs.Reading.{noFields, payloadOf, dataOf, DataThere}
 use Rattle.presentation.specs.declared.Timing.{Timing}
 use Rattle.presentation.specs.declared.Kind.the-variants.{None}
-use Rattle.presentation.specs.Presentation.{untimed}
 use Rattle.stream.specs.declared.Record.{Record}
 use Rattle.stream.specs.declared.Flags.{Flags}
 use Rattle.stream.specs.declared.Stepped.{Stepped}
@@ -34,7 +33,14 @@ noFlags = record { sequence = false; block = false; format = false; mr = false }
 
 -- a refusal: the number, every other field zero or no, an empty part
 unfoldable pub refusedWith : ℕ → Answer
-refusedWith n = record { number = n; fields = noFields; payload = []; flags = noFlags; timing = untimed None (pos 0) }
+refusedWith n =
+    record {
+      number = n;
+      fields = noFields;
+      payload = [];
+      flags = noFlags;
+      timing = record { kind = None; offset = pos 0; time = 0 };
+    }
 
 -- the step for an accepted frame
 unfoldable pub stepOf : Record → List ℕ → ℕ → Stepped
@@ -71,6 +77,11 @@ receiptAnswer (Accepted j) frame =
       timing = j .timing;
     }
 receiptAnswer (Refused r) frame = refusedWith (numberOf r)
+
+-- the frame has the part that the receipt's stream_data_length leaves to the payload
+abbrev pub PayloadThere : Receipt → List ℕ → Type 0
+PayloadThere (Accepted j) frame = DataThere frame (j .fields .header .stream .«data_length»)
+PayloadThere (Refused r) frame = ⊥
 
 -- a refused answer says nothing: its parts are those of a step that an unused record takes for fifty zero bytes, with no payload
 abbrev pub RefusedAnswer : Type 0

@@ -33,8 +33,8 @@ frame sequence n dbs dbc bytes = header sequence n ++ cip dbs dbc ++ replicate b
 pub data Example : Type 0 where
   -- a frame, the number that it is answered, and its blocks
   read : List ℕ → ℕ → ℕ → Example
-  -- a frame, and the next block count after it
-  nextCount : List ℕ → ℕ → Example
+  -- a frame, its blocks, and the next block count after it
+  nextCount : List ℕ → ℕ → ℕ → Example
   -- successive frames of a newly admitted stream, and their flags
   flags : List (List ℕ) → List Flags → Example
   -- L, T, and what is reckoned: d, kind and time
@@ -44,11 +44,18 @@ abbrev flagsOfEach : Record → List (List ℕ) → List Flags
 flagsOfEach r [] = []
 flagsOfEach r (f ∷ fs) = answerOf r f 0 .flags ∷ flagsOfEach (after r f 0) fs
 
+abbrev Reads : List ℕ → ℕ → ℕ → Type 0
+Reads f n blocks = (refusal f ≡ n) × (blocksOf (payloadOf f) (fieldsOf f .cip .dbs) ≡ blocks)
+
+abbrev AllAccepted : List (List ℕ) → Type 0
+AllAccepted [] = Unit {0}
+AllAccepted (f ∷ fs) = (refusal f ≡ 0) × AllAccepted fs
+
 -- the rules answer an example as document 01 has it
 abbrev pub Holds : Example → Type 0
-Holds (read f n blocks) = (refusal f ≡ n) × (blocksOf (payloadOf f) (fieldsOf f .cip .dbs) ≡ blocks)
-Holds (nextCount f n) = after (admitted 1) f 0 .«next_dbc» ≡ n
-Holds (flags fs raised) = flagsOfEach (admitted 1) fs ≡ raised
+Holds (read f n blocks) = Reads f n blocks
+Holds (nextCount f blocks n) = Reads f 0 blocks × (after (admitted 1) f 0 .«next_dbc» ≡ n)
+Holds (flags fs raised) = AllAccepted fs × (flagsOfEach (admitted 1) fs ≡ raised)
 Holds (time L T d kind t) = timing L T ≡ record { kind = kind; offset = d; time = t }
 
 abbrev pub AllHold : List Example → Type 0
@@ -64,8 +71,8 @@ marked =
     ∷ read (frame 0 1032 0 0 1024) 0 1
     ∷ read (frame 0 1028 0 0 1020) 14 0
     -- M6, M7
-    ∷ nextCount (frame 0 40 1 250 32) 2
-    ∷ nextCount (frame 0 1476 1 10 1468) 121
+    ∷ nextCount (frame 0 40 1 250 32) 8 2
+    ∷ nextCount (frame 0 1476 1 10 1468) 367 121
     -- M8
     ∷ flags (frame 255 8 1 0 0 ∷ frame 0 8 1 0 0 ∷ frame 1 8 1 0 0 ∷ []) (noFlags ∷ noFlags ∷ noFlags ∷ [])
     -- M9 to M12

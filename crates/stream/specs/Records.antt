@@ -1,11 +1,14 @@
 -- A stream's record and what an accepted frame makes of it (document 01, Stream records).
 use Prim.Native.Nat.{ℕ, _+_, _%_}
+use mathlib.Core.Path.{_≡_}
 use mathlib.Core.Bool.{Bool, true, false, not, _&&_, _||_, cond, Bool·beq}
 use mathlib.Core.List.{List}
 use lib.Dec.{ltb}
+use lib.ListN.{replicate}
 use Rattle.frame.specs.declared.layout.Cip.{Cip}
 use Rattle.frame.specs.declared.layout.Fields.{Fields}
 use Rattle.refusal.specs.Refusals.{differs}
+use Rattle.frame.specs.Layout.{fieldsOf}
 use Rattle.frame.specs.Reading.{blocksOf}
 use Rattle.stream.specs.declared.Format.{Format}
 use Rattle.stream.specs.declared.Counts.{Counts}
@@ -47,6 +50,24 @@ admitted id =
       format = noFormat;
       counts = noCounts;
     }
+
+-- nothing in them but the id and that it is admitted: the rest is what fifty zero bytes hold, and no count
+abbrev pub ZeroRecords : Type 0
+ZeroRecords =
+    (let zeros = fieldsOf (replicate 50 0) in
+    let none : Counts = record { frames = 0; «sequence_breaks» = 0; «block_breaks» = 0; «format_changes» = 0; «mr_changes» = 0 } in
+    let blank : Bool → ℕ → Record =
+    λ used id. record {
+      «in_use» = used;
+      seen = false;
+      id = id;
+      sequence = zeros .header .avtp .sequence;
+      «next_dbc» = zeros .cip .dbc;
+      mr = zeros .header .avtp .mr;
+      format = record { fmt = zeros .cip .fmt; dbs = zeros .cip .dbs; «fraction_number» = zeros .cip .«fraction_number»; sph = zeros .cip .sph };
+      counts = none;
+    } in
+    (unused ≡ blank false 0) × ((id : ℕ) → admitted id ≡ blank true id))
 
 -- ---- Flags, judged on the record as it stood
 

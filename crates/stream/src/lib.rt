@@ -5,12 +5,11 @@ use frame::layout::Fields;
 use presentation::Timing;
 use refusal::Refusal;
 ghost use mathlib.Core.Path.{_≡_};
-ghost use lib.ListN.{length};
 ghost use denote.Ref.{ptr};
 ghost use Rattle.wire.specs.Parts.{StandsIn};
-ghost use Rattle.stream.specs.Records.{unused, admitted, formatOf, formatChange, sequenceBreak, flagsOf, nextDbc, bump, countsAfter, recordAfter};
+ghost use Rattle.stream.specs.Records.{unused, admitted, ZeroRecords, formatOf, formatChange, sequenceBreak, flagsOf, nextDbc, bump, countsAfter, recordAfter};
 ghost use Rattle.stream.specs.Step.{stepped};
-ghost use Rattle.stream.specs.Answers.{receiptAnswer, RefusedAnswer};
+ghost use Rattle.stream.specs.Answers.{receiptAnswer, PayloadThere, RefusedAnswer};
 ghost use Rattle.stream.specs.Examples.{MarkedExamples};
 
 // The four format fields of a CIP header.
@@ -210,7 +209,7 @@ pub fn step(last: Record, fields: Fields, payload: &[u8], arrival_time: u64) -> 
 // The payload that goes with a receipt: a part of the frame for which it was given, empty where that is refused.
 pub fn payload_of(receipt: Receipt, frame: &[u8]) -> &[u8]
     ensures { λ r. ⌜ now r ≡ receiptAnswer receipt (now (frame .entry)) .payload ⌝ }
-    ensures { λ r. ⌜ StandsIn (ptr (frame .entry)) 50 (ptr r) (length (now r)) ⌝ }
+    ensures { λ r. ⌜ StandsIn (ptr (frame .entry)) 50 (ptr r) (PayloadThere receipt (now (frame .entry))) ⌝ }
 {
     match receipt {
         Receipt::Accepted(judged) => {
@@ -220,6 +219,11 @@ pub fn payload_of(receipt: Receipt, frame: &[u8]) -> &[u8]
         Receipt::Refused(_) => &frame[..0],
     }
 }
+
+// A record that is free or newly admitted holds zeros: what fifty zero bytes hold, and no count.
+fn zero_records()
+    ensures { λ _. ⌜ ZeroRecords ⌝ }
+{}
 
 // Every part of a refused answer is zero, no or empty.
 fn refused_answer()

@@ -8,42 +8,42 @@ use borrow.Author.Tests.{le-leb, lt-leb, leb-true, leb-false, not-true, not-fals
 use lib.Dec.{leb}
 use lib.ListN.{length, length-append}
 use lib.Seq.{sets, length-sets}
-use Rattle.text.specs.Putting.{largest, capped, placeAfter, putAt, Put}
+use Rattle.text.specs.Putting.{largest, saturated, placeAfter, putAt, Put}
 use Rattle.text.specs.InTurn.{PutInTurn}
 use Rattle.text.proofs.Sets.{sets-append}
 
 -- ---- Places
 
 -- a number and what is taken for it, by whether it is above the largest
-by-cap : (n : ℕ) {X : Type 0} → (n ≤ largest → capped n ≡ n → X) → (largest < n → capped n ≡ largest → X) → X
+by-cap : (n : ℕ) {X : Type 0} → (n ≤ largest → saturated n ≡ n → X) → (largest < n → saturated n ≡ largest → X) → X
 by-cap n {X} f g = go (leb n largest) refl
   where
     go : (s : Bool) → leb n largest ≡ s → X
     go true e = f (leb-true n largest e) (rw e)
     go false e = g (leb-false n largest e) (rw e)
 
-capped-below : (n : ℕ) → capped n ≤ n
-capped-below n = by-cap n (λ h e. rw e (omega arith)) (λ h e. rw e (omega arith))
+saturated-below : (n : ℕ) → saturated n ≤ n
+saturated-below n = by-cap n (λ h e. rw e (omega arith)) (λ h e. rw e (omega arith))
 
-capped-above : (m n : ℕ) → m < n → m < largest → m < capped n
-capped-above m n h l = by-cap n (λ g e. rw e h) (λ g e. rw e l)
+saturated-above : (m n : ℕ) → m < n → m < largest → m < saturated n
+saturated-above m n h l = by-cap n (λ g e. rw e h) (λ g e. rw e l)
 
-capped-sum : (m n : ℕ) → capped (capped m + n) ≡ capped (m + n)
-capped-sum m n =
+saturated-sum : (m n : ℕ) → saturated (saturated m + n) ≡ saturated (m + n)
+saturated-sum m n =
     by-cap m (λ h e. rw e) (λ h e.
-    let up : capped (largest + n) ≡ largest = by-cap (largest + n) (λ g f. f ∙ omega arith) (λ g f. f) in
-    let over : capped (m + n) ≡ largest = by-cap (m + n) (λ g f. absurd (omega arith)) (λ g f. f) in
+    let up : saturated (largest + n) ≡ largest = by-cap (largest + n) (λ g f. f ∙ omega arith) (λ g f. f) in
+    let over : saturated (m + n) ≡ largest = by-cap (m + n) (λ g f. absurd (omega arith)) (λ g f. f) in
     rw (e, over) up)
 
 after-sum : (at : ℕ) (s t : List ℕ) → placeAfter (placeAfter at s) t ≡ placeAfter at (s ++ t)
 unfolding placeAfter
 after-sum at s t =
     let e : at + length s + length t ≡ at + length (s ++ t) = omega (arith, length-append s t) in
-    capped-sum (at + length s) (length t) ∙ ap capped e
+    saturated-sum (at + length s) (length t) ∙ ap saturated e
 
 pub after-below : (at : ℕ) (text : List ℕ) → placeAfter at text ≤ at + length text
 unfolding placeAfter
-after-below at text = capped-below (at + length text)
+after-below at text = saturated-below (at + length text)
 
 -- ---- One call
 
@@ -65,13 +65,13 @@ module _ {d d′ text : List ℕ} {at r : ℕ} where
         room = λ _. p;
       }
 
-  pub not-put : length d < largest → length d < at + length text → d′ ≡ d → r ≡ capped (at + length text) → Put d at text d′ r
+  pub not-put : length d < largest → length d < at + length text → d′ ≡ d → r ≡ saturated (at + length text) → Put d at text d′ r
   unfolding placeAfter putAt
   not-put l h e p =
       record {
         place = p;
         buffer = rw (lt-leb (at + length text) (length d) h) e;
-        room = λ g. absurd (omega (arith, capped-above (length d) (at + length text) h l));
+        room = λ g. absurd (omega (arith, saturated-above (length d) (at + length text) h l));
       }
 
 -- ---- One text after another

@@ -11,12 +11,12 @@ use lib.Seq.{sets}
 abbrev pub largest : ℕ
 largest = 18_446_744_073_709_551_615
 
-abbrev pub capped : ℕ → ℕ
-capped n = cond (leb n largest) n largest
+abbrev pub saturated : ℕ → ℕ
+saturated n = cond (leb n largest) n largest
 
 -- the place after a text at a place
 unfoldable pub placeAfter : ℕ → List ℕ → ℕ
-placeAfter at text = capped (at + length text)
+placeAfter at text = saturated (at + length text)
 
 -- the buffer d afterwards: a text that has no room there is not put
 unfoldable pub putAt : List ℕ → ℕ → List ℕ → List ℕ

@@ -8,7 +8,7 @@ ghost use lib.IntN.{natAbs};
 ghost use lib.ListN.{length};
 ghost use lib.Seq.{sets};
 ghost use Rattle.text.specs.Text.{decimal, signed};
-ghost use Rattle.text.specs.Putting.{capped, Put};
+ghost use Rattle.text.specs.Putting.{saturated, Put};
 
 // Does a buffer of `len` bytes have room for `size` of them at place `at`?
 fn has_room(len: usize, at: usize, size: usize) -> bool
@@ -22,7 +22,7 @@ fn has_room(len: usize, at: usize, size: usize) -> bool
 
 // The place after `size` bytes at place `at`.
 fn place_after(at: usize, size: usize) -> usize
-    ensures { λ r. ⌜ r ≡ capped (at + size) ⌝ }
+    ensures { λ r. ⌜ r ≡ saturated (at + size) ⌝ }
 {
     if usize::MAX - size < at {
         return usize::MAX;

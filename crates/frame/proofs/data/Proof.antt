@@ -11,13 +11,13 @@ use Rattle.frame.proofs.data.Tie as tie
 
 returns : tie.Need-returns
 unfolding dataOf
-returns c = (rw (lt-ltb _ _ (c .before .if1 .taken)), (refl, λ h. absurd (omega arith)))
+returns c = (rw (lt-ltb _ _ (c .before .if1 .taken)), (refl, λ h. absurd (omega (arith, h .0))))
 
 returns-2 : tie.Need-returns-2
 unfolding dataOf
 returns-2 c =
     let a = c .before .before .before .args in
-    (rw (le-ltb (a .data-length) 8 (omega arith), lt-ltb (length (now (a .frame))) (42 + a .data-length) (omega arith)), (refl, λ h. absurd (omega arith)))
+    (rw (le-ltb (a .data-length) 8 (omega arith), lt-ltb (length (now (a .frame))) (42 + a .data-length) (omega arith)), (refl, λ h. absurd (omega (arith, h .1))))
 
 returns-3 : tie.Need-returns-3
 unfolding dataOf

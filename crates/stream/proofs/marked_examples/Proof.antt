@@ -13,7 +13,7 @@ use Rattle.stream.proofs.marked_examples.Tie as tie
 
 returns : tie.Need-returns
 unfolding fieldsOf headerOf ethernetOf avtpOf streamOf cipOf firstOf misaddressed blockBytes lengthChecks ethernetChecks avtpChecks addressChecks streamChecks blockChecks headerChecks readChecks frameChecks refusal payloadOf blocksOf offset timed timing admitted formatOf formatChange flagsOf bump countsAfter recordAfter stepped stepOf answerOf after
-returns c = ((refl, refl), ((refl, refl), ((refl, refl), ((refl, refl), ((refl, refl), (refl, (refl, (refl, (refl, (refl, (refl, (refl, tt))))))))))))
+returns c = ((refl, refl), ((refl, refl), ((refl, refl), ((refl, refl), ((refl, refl), (((refl, refl), refl), (((refl, refl), refl), (((refl, (refl, (refl, tt))), refl), (refl, (refl, (refl, (refl, tt))))))))))))
 
 pub marked-examples-spec : {M : Type 1} → statement M
 marked-examples-spec = tie.close (tie.spec returns)

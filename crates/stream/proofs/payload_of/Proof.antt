@@ -11,11 +11,11 @@ use Rattle.stream.proofs.payload_of.Statement.{statement}
 use Rattle.stream.proofs.payload_of.Tie as tie
 
 returns : tie.Need-returns
-returns c = (c .«data» .ensures .0 ∙ rw (c .before .before .receipt .given .1) refl, c .«data» .ensures .1)
+returns c = (c .«data» .ensures .0 ∙ rw (c .before .before .receipt .given .1) refl, rw (c .before .before .receipt .given .1) (c .«data» .ensures .1))
 
 returns-2 : tie.Need-returns-2
 unfolding refusedWith
-returns-2 c = (rw (c .before .enum-told .given .1) (empty (c .before .enum-told .given .0 .0)), (refl, λ h. absurd (omega arith)))
+returns-2 c = (rw (c .before .enum-told .given .1) (empty (c .before .enum-told .given .0 .0)), (refl, λ h. absurd (rw (c .before .enum-told .given .1) at h)))
   where
     empty : (r : Refusal) → _≡_ {A = List ℕ} [] (refusedWith (numberOf r) .payload)
     empty r = refl

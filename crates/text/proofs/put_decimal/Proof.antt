@@ -5,7 +5,7 @@ use borrow.Author.Needs.{needs}
 use lib.ListN.{length}
 use denote.Ref.{now}
 use Rattle.text.specs.Text.{decimal}
-use Rattle.text.specs.Putting.{capped}
+use Rattle.text.specs.Putting.{saturated}
 use Rattle.text.proofs.Puts.{has-room, lacks-room, put-there, not-put}
 use Rattle.text.proofs.put_decimal.Statement.{statement}
 use Rattle.text.proofs.put_decimal.Tie as tie
@@ -16,7 +16,7 @@ returns c =
     let digits = asked .before .count-digits in
     let a = asked .before .before .before .args in
     let none = lacks-room (a .at + digits .result) (length (now (a .out))) (asked .has-room .ensures) (c .before .if1 .taken) in
-    not-put (omega arith) (omega (arith, none, digits .ensures)) refl (c .place-after .ensures ∙ ap (λ (n : ℕ). capped (a .at + n)) (digits .ensures))
+    not-put (omega arith) (omega (arith, none, digits .ensures)) refl (c .place-after .ensures ∙ ap (λ (n : ℕ). saturated (a .at + n)) (digits .ensures))
 
 fits : (c : tie.Else1) → c .before .before .before .before .args .at + c .before .before .count-digits .result ≤ length (now (c .before .before .before .before .args .out))
 fits c =

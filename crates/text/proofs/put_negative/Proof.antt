@@ -7,7 +7,7 @@ use borrow.Author.Needs.{needs}
 use lib.ListN.{length, length-set}
 use denote.Ref.{now}
 use Rattle.text.specs.Text.{decimal}
-use Rattle.text.specs.Putting.{capped}
+use Rattle.text.specs.Putting.{saturated}
 use Rattle.text.proofs.Decimals.{decimal-length}
 use Rattle.text.proofs.Puts.{has-room, lacks-room, put-there, not-put}
 use Rattle.text.proofs.put_negative.Statement.{statement}
@@ -27,7 +27,7 @@ returns c =
     let digits = asked .before in
     let a = digits .before .before .args in
     let none = lacks-room (a .at + (1 + digits .count-digits .result)) (length (now (a .out))) (asked .has-room .ensures) (c .before .if1 .taken) in
-    not-put (omega arith) (omega (arith, none, size digits)) refl (c .place-after .ensures ∙ ap (λ (n : ℕ). capped (a .at + n)) (size digits))
+    not-put (omega arith) (omega (arith, none, size digits)) refl (c .place-after .ensures ∙ ap (λ (n : ℕ). saturated (a .at + n)) (size digits))
 
 fits : (c : tie.Else1) → c .before .before .before .before .args .at + (1 + c .before .before .count-digits .result) ≤ length (now (c .before .before .before .before .args .out))
 fits c =
