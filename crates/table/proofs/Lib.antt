@@ -1,8 +1,9 @@
 pub mod Lengths
 pub mod Machine
-pub mod Whole
+pub mod Tables
 pub mod Callees
 pub mod Searched
 pub mod Receiving
 pub mod Changing
 pub mod ByValue
+pub mod ReceivingByValue

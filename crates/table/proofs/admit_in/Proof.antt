@@ -3,7 +3,8 @@
 use denote.Triple.Spec.{tripleOf}
 use denote.Triple.Table.{entered, cited}
 use contract.Running.{givenOf, tables, tablesOf}
-use Rattle.table.specs.Table.{admit}
+use Rattle.table.specs.Table.{ChangedBy, admit}
+use Rattle.table.proofs.Tables.{changed, room-64}
 use Rattle.table.proofs.Callees.{Changer}
 use Rattle.table.proofs.ByValue.{meets}
 use Rattle.table.proofs.admit.Symbol as callee
@@ -19,5 +20,5 @@ unfolding code.routine tablesOf
 admit-in-spec 𝓤 H 𝓜 𝓖 𝓡 =
     entered 𝓤 H (tripleOf 𝓤 H (𝓖 .A) this.signature (this.spec 𝓤 H (𝓖 .A) (𝓜 .mem) (𝓡 .run)))
     (tables 𝓤 H 𝓜 𝓡 code.env .C) (tables 𝓤 H 𝓜 𝓡 code.env .Λ) #table·admit-in code.function (code.unfolded 𝓤 H 𝓜 𝓡)
-    (meets #table·admit admit 𝓤 H (𝓖 .A) (givenOf 𝓤 H 𝓜 𝓖) (𝓜 .mem) (𝓡 .run) (tablesOf 𝓤 H 𝓜 (tables 𝓤 H 𝓜 𝓡 code.env))
+    (meets 64 room-64 changed #table·admit admit (λ t id x. ChangedBy admit t id (x .change) (x .table)) (λ t id c h. h) 𝓤 H (𝓖 .A) (givenOf 𝓤 H 𝓜 𝓖) (𝓜 .mem) (𝓡 .run) (tablesOf 𝓤 H 𝓜 (tables 𝓤 H 𝓜 𝓡 code.env))
     (cited 𝓤 H (Changer 𝓤 H (𝓖 .A) (𝓜 .mem) (𝓡 .run) admit) 𝓜 𝓡 code.env #table·admit callee.routine code.calls-table·admit (callee-thm.met 𝓤 H 𝓜 𝓖 𝓡)))
