@@ -19,7 +19,7 @@ use denote.Laws.{Is}
 use denote.Plain.{uint-makes}
 use denote.Builtin.{u8, u64, usize, bool, unit}
 use denote.Ref.{RefT, now}
-use denote.Slice.{sliceVal, slice-vals, ShrSlice, MutSlice, finally}
+use denote.Slice.{sliceVal, slice-vals, finally}
 use denote.Steps.{owned, nothing}
 use denote.Struct.Laws as LL
 use denote.Enum.Laws as EL
@@ -34,29 +34,27 @@ use Rattle.stream.specs.declared.Record.{Record}
 use Rattle.table.specs.declared.Served.{Served}
 use Rattle.stream.specs.declared.Receipt.{Receipt}
 use Rattle.stream.specs.Answers.{receiptAnswer}
-use Rattle.table.specs.Private.{served}
-use Rattle.stream.specs.Records.{unused, admitted}
 use Rattle.table.specs.declared.Found.{Found}
 use Rattle.table.specs.declared.Wanted.{Wanted}
+use Rattle.table.specs.declared.Asked.{Asked}
 use Rattle.table.specs.declared.Target.{Target}
 use Rattle.table.specs.declared.Change.{Change}
 use Rattle.table.specs.Table.{at, receive, changeNumber, ChangedBy, Receives}
-use Rattle.table.specs.Private.{wants, find, readingFor, placeToAdmit, placeToRemove, changeOf, changedAt}
-use Rattle.table.proofs.Machine.{machR, machU, machF, machQ, machX}
+use Rattle.table.specs.Private.{wants, find, readingFor, targetOf, changeOf, changedAt, Fits, served}
+use Rattle.table.proofs.Machine.{machR, machU, machF, machQ, machK, machX}
 use Rattle.walks.proofs.Calls.{is-said, some-said}
-use Rattle.walks.proofs.Lending.{is-last, some-last}
+use Rattle.walks.proofs.Lending.{Part, Alive, Mine, is-last, some-last}
 use Rattle.table.proofs.Receiving.{ServesAlone}
-use Rattle.table.proofs.Changing.{Fits}
 use Rattle.frame.proofs.layout.Fields as U
 use Rattle.frame.proofs.layout.Fields.Laws as U′
 use Rattle.frame.proofs.Reading as G
 use Rattle.table.proofs.Served as S
 use Rattle.stream.proofs.Receipt as P
 use Rattle.table.proofs.serve as serve
-use Rattle.stream.proofs.admitted as new-record
-use Rattle.stream.proofs.unused as unused-record
 use Rattle.stream.proofs.Record as T
 use Rattle.stream.proofs.Record.Laws as T′
+use Rattle.table.proofs.Asked as K
+use Rattle.table.proofs.Asked.Laws as K′
 use Rattle.table.proofs.Target as X
 use Rattle.table.proofs.Target.Laws as X′
 use Rattle.table.proofs.Change as Y
@@ -70,8 +68,7 @@ use Rattle.table.proofs.put as put
 use Rattle.table.proofs.find as search
 use Rattle.table.proofs.read_for as read-for
 use Rattle.table.proofs.receive_alone as receive-alone
-use Rattle.table.proofs.place_to_admit as place-to-admit
-use Rattle.table.proofs.place_to_remove as place-to-remove
+use Rattle.table.proofs.decide as deciding
 use Rattle.table.proofs.store as store
 use Rattle.table.proofs.admit as admitting
 use Rattle.table.proofs.receive as receiving
@@ -96,65 +93,58 @@ module _ {M : Type 1} (𝓤 : URA M) (H : Heap 𝓤) (A : Atoms 𝓤) (mem : Mem
   abbrev pub Get : Contract 𝓤
   Get = tripleOf 𝓤 H A get.signature (get.spec 𝓤 H A mem run)
 
-  module _ (κ : Lft) (q : Share) (b o : ℕ) (γ : GName) (ys : List Record) where
-    abbrev x : RefT (List Record)
-    x = record { ptr = (b, o); name = γ; now = ys }
+  -- a table behind a reference, and what a `&mut` of it owns
+  abbrev x : (b o : ℕ) → GName → List Record → RefT (List Record)
+  x b o γ ys = record { ptr = (b, o); name = γ; now = ys }
 
-    -- what a `&[Record]` owns, what a `&mut [Record]` owns, and the lifetime's token
-    abbrev pub Shr : Item 𝓤
-    Shr = ‵ (ShrSlice (named 0) κ T.the-row .own x (sliceVal (b, o) (length ys) ∷ []))
+  abbrev Mut : Lft → (b o : ℕ) → GName → List Record → Item 𝓤
+  Mut κ b o γ ys = Mine 𝓤 T.the-row (named 0) κ γ b o (length ys) ys
 
-    abbrev Mut : Item 𝓤
-    Mut = ‵ (MutSlice (named 0) κ T.the-row .own x (sliceVal (b, o) (length ys) ∷ []))
+  module _ (κ : Lft) (q : Share) (b o : ℕ) (γ : GName) (ys : List Record) (i : ℕ) where
+    abbrev pub to-get : Get .Ghost
+    to-get = (((κ, tt), (q, tt), tt, (x b o γ ys, (i, tt)), (sliceVal (b, o) (length ys) ∷ [], (vint w64 i ∷ [], tt))), tt)
 
-    abbrev pub Alive : Item 𝓤
-    Alive = ‵ (flft κ q) ⊛ ‵ ftrue
+    module _ (W : Given 𝓤 H A) where
+      pub goes-get : i < 2 ^ 64 → i < length ys → ent 𝓤 (mean 𝓤 H A (Alive 𝓤 κ q ⊛ Part 𝓤 T.the-row κ (x b o γ ys))) (Get .pre to-get)
+      goes-get fits within =
+          qed W (Alive 𝓤 κ q ∷ Part 𝓤 T.the-row κ (x b o γ ys) ∷ []) ∵ says ! within $ frame ! $ nothing ! $ owned ! usize (Is usize) (uint-makes 𝓤 H A W w64) i _ (refl, fits) $ fjoin ! $ move ! (1 ∷ 0 ∷ []) $ fjoin ! $ done !
 
-    module _ (i : ℕ) where
-      abbrev pub to-get : Get .Ghost
-      to-get = (((κ, tt), (q, tt), tt, (x, (i, tt)), (sliceVal (b, o) (length ys) ∷ [], (vint w64 i ∷ [], tt))), tt)
-
-      module _ (W : Given 𝓤 H A) where
-        pub goes-get : i < 2 ^ 64 → i < length ys → ent 𝓤 (mean 𝓤 H A (Alive ⊛ Shr)) (Get .pre to-get)
-        goes-get fits within =
-            qed W (Alive ∷ Shr ∷ []) ∵ says ! within $ frame ! $ nothing ! $ owned ! usize (Is usize) (uint-makes 𝓤 H A W w64) i _ (refl, fits) $ fjoin ! $ move ! (1 ∷ 0 ∷ []) $ fjoin ! $ done !
-
-        pub get-is : (v : Val) → ent 𝓤 (Get .post to-get v) (H .⇛ (sep 𝓤 (mean 𝓤 H A Alive) (fact 𝓤 (Is T.the-row (at ys i) (v ∷ [])))))
-        get-is v = is-said 𝓤 H A W T.the-row (at ys i) v (mean 𝓤 H A Alive) (ensured 𝓤 H A get.ended (get.clauses 𝓤 H A mem run) (κ, tt) (x, (i, tt)) tt)
-            (λ r. exE 𝓤 _ (λ ws. snd∗ 𝓤 (sem 𝓤 H A (lasts get.ended (κ, tt) (x, (i, tt)) ws)) (fact 𝓤 (r ≡ at ys i))))
+      pub get-is : (v : Val) → ent 𝓤 (Get .post to-get v) (H .⇛ (sep 𝓤 (mean 𝓤 H A (Alive 𝓤 κ q)) (fact 𝓤 (Is T.the-row (at ys i) (v ∷ [])))))
+      get-is v = is-said 𝓤 H A W T.the-row (at ys i) v (mean 𝓤 H A (Alive 𝓤 κ q)) (ensured 𝓤 H A get.ended (get.clauses 𝓤 H A mem run) (κ, tt) (x b o γ ys, (i, tt)) tt)
+          (λ r. exE 𝓤 _ (λ ws. snd∗ 𝓤 (sem 𝓤 H A (lasts get.ended (κ, tt) (x b o γ ys, (i, tt)) ws)) (fact 𝓤 (r ≡ at ys i))))
 
   abbrev pub Find : Contract 𝓤
   Find = tripleOf 𝓤 H A search.signature (search.spec 𝓤 H A mem run)
 
   module _ (κ : Lft) (q : Share) (b o : ℕ) (γ : GName) (ys : List Record) (w : Wanted) where
     abbrev pub to-find : Find .Ghost
-    to-find = (((κ, tt), (q, tt), tt, (x κ q b o γ ys, (w, tt)), (sliceVal (b, o) (length ys) ∷ [], (machQ w ∷ [], tt))), tt)
+    to-find = (((κ, tt), (q, tt), tt, (x b o γ ys, (w, tt)), (sliceVal (b, o) (length ys) ∷ [], (machQ w ∷ [], tt))), tt)
 
     module _ (W : Given 𝓤 H A) where
-      pub goes-find : Is Q.the-row w (machQ w ∷ []) → ent 𝓤 (mean 𝓤 H A (Alive κ q b o γ ys ⊛ Shr κ q b o γ ys)) (Find .pre to-find)
+      pub goes-find : Is Q.the-row w (machQ w ∷ []) → ent 𝓤 (mean 𝓤 H A (Alive 𝓤 κ q ⊛ Part 𝓤 T.the-row κ (x b o γ ys))) (Find .pre to-find)
       goes-find is =
-          qed W (Alive κ q b o γ ys ∷ Shr κ q b o γ ys ∷ []) ∵ nothing ! $ owned ! Q.the-row (Is Q.the-row) (EL.makes Q.the-type Q′.the-plain 𝓤 H A) w _ is $ fjoin ! $ move ! (2 ∷ 0 ∷ []) $ fjoin ! $ move ! (1 ∷ 0 ∷ []) $ join ! $ frame ! $ done !
+          qed W (Alive 𝓤 κ q ∷ Part 𝓤 T.the-row κ (x b o γ ys) ∷ []) ∵ nothing ! $ owned ! Q.the-row (Is Q.the-row) (EL.makes Q.the-type Q′.the-plain 𝓤 H A) w _ is $ fjoin ! $ move ! (2 ∷ 0 ∷ []) $ fjoin ! $ move ! (1 ∷ 0 ∷ []) $ join ! $ frame ! $ done !
 
-      pub find-is : (v : Val) → ent 𝓤 (Find .post to-find v) (H .⇛ (sep 𝓤 (mean 𝓤 H A (Alive κ q b o γ ys)) (fact 𝓤 (Is F.the-row (find ys w) (v ∷ [])))))
-      find-is v = is-said 𝓤 H A W F.the-row (find ys w) v (mean 𝓤 H A (Alive κ q b o γ ys)) (ensured 𝓤 H A search.ended (search.clauses 𝓤 H A mem run) (κ, tt) (x κ q b o γ ys, (w, tt)) tt)
-          (λ r. exE 𝓤 _ (λ ws. snd∗ 𝓤 (sem 𝓤 H A (lasts search.ended (κ, tt) (x κ q b o γ ys, (w, tt)) ws)) (fact 𝓤 (r ≡ find ys w))))
+      pub find-is : (v : Val) → ent 𝓤 (Find .post to-find v) (H .⇛ (sep 𝓤 (mean 𝓤 H A (Alive 𝓤 κ q)) (fact 𝓤 (Is F.the-row (find ys w) (v ∷ [])))))
+      find-is v = is-said 𝓤 H A W F.the-row (find ys w) v (mean 𝓤 H A (Alive 𝓤 κ q)) (ensured 𝓤 H A search.ended (search.clauses 𝓤 H A mem run) (κ, tt) (x b o γ ys, (w, tt)) tt)
+          (λ r. exE 𝓤 _ (λ ws. snd∗ 𝓤 (sem 𝓤 H A (lasts search.ended (κ, tt) (x b o γ ys, (w, tt)) ws)) (fact 𝓤 (r ≡ find ys w))))
 
   abbrev pub Put : Contract 𝓤
   Put = tripleOf 𝓤 H A put.signature (put.spec 𝓤 H A mem run)
 
   module _ (κ : Lft) (q : Share) (b o : ℕ) (γ : GName) (ys : List Record) (i : ℕ) (r : Record) where
     abbrev pub to-put : Put .Ghost
-    to-put = (((κ, tt), (q, tt), tt, (x κ q b o γ ys, (i, (r, tt))), (sliceVal (b, o) (length ys) ∷ [], (vint w64 i ∷ [], (machR r ∷ [], tt)))), tt)
+    to-put = (((κ, tt), (q, tt), tt, (x b o γ ys, (i, (r, tt))), (sliceVal (b, o) (length ys) ∷ [], (vint w64 i ∷ [], (machR r ∷ [], tt)))), tt)
 
     module _ (W : Given 𝓤 H A) where
-      pub goes-put : i < 2 ^ 64 → Is T.the-row r (machR r ∷ []) → i < length ys → ent 𝓤 (mean 𝓤 H A (Alive κ q b o γ ys ⊛ Mut κ q b o γ ys)) (Put .pre to-put)
+      pub goes-put : i < 2 ^ 64 → Is T.the-row r (machR r ∷ []) → i < length ys → ent 𝓤 (mean 𝓤 H A (Alive 𝓤 κ q ⊛ Mut κ b o γ ys)) (Put .pre to-put)
       goes-put fits is within =
-          qed W (Alive κ q b o γ ys ∷ Mut κ q b o γ ys ∷ []) ∵ says ! within $ frame ! $ nothing ! $ owned ! T.the-row (Is T.the-row) (LL.makes T.the-type T′.the-plain 𝓤 H A) r _ is $ fjoin ! $
+          qed W (Alive 𝓤 κ q ∷ Mut κ b o γ ys ∷ []) ∵ says ! within $ frame ! $ nothing ! $ owned ! T.the-row (Is T.the-row) (LL.makes T.the-type T′.the-plain 𝓤 H A) r _ is $ fjoin ! $
           owned ! usize (Is usize) (uint-makes 𝓤 H A W w64) i _ (refl, fits) $ fjoin ! $ move ! (1 ∷ 0 ∷ []) $ fjoin ! $ done !
 
-      pub put-is : (v : Val) → ent 𝓤 (Put .post to-put v) (H .⇛ (sep 𝓤 (mean 𝓤 H A (Alive κ q b o γ ys ⊛ ‵ (finally T.the-row γ (set ys i r)))) (fact 𝓤 (Is unit tt (v ∷ [])))))
-      put-is v = is-last 𝓤 H A W unit T.the-row γ (set ys i r) v (Alive κ q b o γ ys) (List Record × (Unit {0} × (Unit {0} × Unit {0}))) (λ z. z .0) (λ z. lasts put.ended (κ, tt) (x κ q b o γ ys, (i, (r, tt))) z) (λ u l. l ≡ set ys i r)
-          (λ z. qed W (‵ (lasts put.ended (κ, tt) (x κ q b o γ ys, (i, (r, tt))) z) ∷ []) ∵ fsplit ! $ fsplit ! $ keep ! (0 ∷ []) $ done !) tt (λ u l e. (e, refl))
+      pub put-is : (v : Val) → ent 𝓤 (Put .post to-put v) (H .⇛ (sep 𝓤 (mean 𝓤 H A (Alive 𝓤 κ q ⊛ ‵ (finally T.the-row γ (set ys i r)))) (fact 𝓤 (Is unit tt (v ∷ [])))))
+      put-is v = is-last 𝓤 H A W unit T.the-row γ (set ys i r) v (Alive 𝓤 κ q) (List Record × (Unit {0} × (Unit {0} × Unit {0}))) (λ z. z .0) (λ z. lasts put.ended (κ, tt) (x b o γ ys, (i, (r, tt))) z) (λ u l. l ≡ set ys i r)
+          (λ z. qed W (‵ (lasts put.ended (κ, tt) (x b o γ ys, (i, (r, tt))) z) ∷ []) ∵ fsplit ! $ fsplit ! $ keep ! (0 ∷ []) $ done !) tt (λ u l e. (e, refl))
 
   -- ---- callees that take a frame
   abbrev pub ReadFor : Contract 𝓤
@@ -167,13 +157,6 @@ module _ {M : Type 1} (𝓤 : URA M) (H : Heap 𝓤) (A : Atoms 𝓤) (mem : Mem
   ReceiveAlone = tripleOf 𝓤 H A receive-alone.signature (receive-alone.spec 𝓤 H A mem run)
 
   module _ (κ : Lft) (q : Share) (y : RefT (List ℕ)) where
-    -- what the frame's `&[u8]` owns, and its lifetime's token
-    abbrev pub Frame : Item 𝓤
-    Frame = ‵ (ShrSlice (named 0) κ u8 .own y (slice-vals y))
-
-    abbrev pub FrameAlive : Item 𝓤
-    FrameAlive = ‵ (flft κ q) ⊛ ‵ ftrue
-
     module _ (n : ℕ) where
       abbrev pub to-read-for : ReadFor .Ghost
       to-read-for = (((κ, tt), (q, tt), tt, (n, (y, tt)), (vint w64 n ∷ [], (slice-vals y, tt))), tt)
@@ -182,12 +165,12 @@ module _ {M : Type 1} (𝓤 : URA M) (H : Heap 𝓤) (A : Atoms 𝓤) (mem : Mem
       ReadForSaid r = readAnswer r ≡ readingFor n (y .now)
 
       module _ (W : Given 𝓤 H A) where
-        pub goes-read-for : n < 2 ^ 64 → ent 𝓤 (mean 𝓤 H A (FrameAlive ⊛ Frame)) (ReadFor .pre to-read-for)
+        pub goes-read-for : n < 2 ^ 64 → ent 𝓤 (mean 𝓤 H A (Alive 𝓤 κ q ⊛ Part 𝓤 u8 κ y)) (ReadFor .pre to-read-for)
         goes-read-for fits =
-            qed W (FrameAlive ∷ Frame ∷ []) ∵ nothing ! $ move ! (2 ∷ 0 ∷ []) $ fjoin ! $ owned ! usize (Is usize) (uint-makes 𝓤 H A W w64) n _ (refl, fits) $ fjoin ! $ move ! (1 ∷ 0 ∷ []) $ join ! $ frame ! $ done !
+            qed W (Alive 𝓤 κ q ∷ Part 𝓤 u8 κ y ∷ []) ∵ nothing ! $ move ! (2 ∷ 0 ∷ []) $ fjoin ! $ owned ! usize (Is usize) (uint-makes 𝓤 H A W w64) n _ (refl, fits) $ fjoin ! $ move ! (1 ∷ 0 ∷ []) $ join ! $ frame ! $ done !
 
-        pub read-for-is : (v : Val) → ent 𝓤 (ReadFor .post to-read-for v) (H .⇛ (ex 𝓤 (λ (r : Reading). sep 𝓤 (mean 𝓤 H A FrameAlive) (fact 𝓤 (ReadForSaid r × Is G.the-row r (v ∷ []))))))
-        read-for-is v = some-said 𝓤 H A W G.the-row ReadForSaid v (mean 𝓤 H A FrameAlive) (ensured 𝓤 H A read-for.ended (read-for.clauses 𝓤 H A mem run) (κ, tt) (n, (y, tt)) tt)
+        pub read-for-is : (v : Val) → ent 𝓤 (ReadFor .post to-read-for v) (H .⇛ (ex 𝓤 (λ (r : Reading). sep 𝓤 (mean 𝓤 H A (Alive 𝓤 κ q)) (fact 𝓤 (ReadForSaid r × Is G.the-row r (v ∷ []))))))
+        read-for-is v = some-said 𝓤 H A W G.the-row ReadForSaid v (mean 𝓤 H A (Alive 𝓤 κ q)) (ensured 𝓤 H A read-for.ended (read-for.clauses 𝓤 H A mem run) (κ, tt) (n, (y, tt)) tt)
             (λ r. exE 𝓤 _ (λ ws. snd∗ 𝓤 (sem 𝓤 H A (lasts read-for.ended (κ, tt) (n, (y, tt)) ws)) (fact 𝓤 (ReadForSaid r))))
 
     module _ (r : Record) (f : Fields) (L : ℕ) where
@@ -195,13 +178,13 @@ module _ {M : Type 1} (𝓤 : URA M) (H : Heap 𝓤) (A : Atoms 𝓤) (mem : Mem
       to-serve = (((κ, tt), (q, tt), tt, (r, (f, (y, (L, tt)))), (machR r ∷ [], (machU f ∷ [], (slice-vals y, (vint w64 L ∷ [], tt))))), tt)
 
       module _ (W : Given 𝓤 H A) where
-        pub goes-serve : Is T.the-row r (machR r ∷ []) → Is U.the-row f (machU f ∷ []) → L < 2 ^ 64 → ent 𝓤 (mean 𝓤 H A (FrameAlive ⊛ Frame)) (Serve .pre to-serve)
+        pub goes-serve : Is T.the-row r (machR r ∷ []) → Is U.the-row f (machU f ∷ []) → L < 2 ^ 64 → ent 𝓤 (mean 𝓤 H A (Alive 𝓤 κ q ⊛ Part 𝓤 u8 κ y)) (Serve .pre to-serve)
         goes-serve is is′ fits =
-            qed W (FrameAlive ∷ Frame ∷ []) ∵ nothing ! $ owned ! u64 (Is u64) (uint-makes 𝓤 H A W w64) L _ (refl, fits) $ fjoin ! $ move ! (2 ∷ 0 ∷ []) $ fjoin ! $
+            qed W (Alive 𝓤 κ q ∷ Part 𝓤 u8 κ y ∷ []) ∵ nothing ! $ owned ! u64 (Is u64) (uint-makes 𝓤 H A W w64) L _ (refl, fits) $ fjoin ! $ move ! (2 ∷ 0 ∷ []) $ fjoin ! $
             owned ! U.the-row (Is U.the-row) (LL.makes U.the-type U′.the-plain 𝓤 H A) f _ is′ $ fjoin ! $ owned ! T.the-row (Is T.the-row) (LL.makes T.the-type T′.the-plain 𝓤 H A) r _ is $ fjoin ! $ move ! (1 ∷ 0 ∷ []) $ join ! $ frame ! $ done !
 
-        pub serve-is : (v : Val) → ent 𝓤 (Serve .post to-serve v) (H .⇛ (sep 𝓤 (mean 𝓤 H A FrameAlive) (fact 𝓤 (Is S.the-row (served r f (y .now) L) (v ∷ [])))))
-        serve-is v = is-said 𝓤 H A W S.the-row (served r f (y .now) L) v (mean 𝓤 H A FrameAlive) (ensured 𝓤 H A serve.ended (serve.clauses 𝓤 H A mem run) (κ, tt) (r, (f, (y, (L, tt)))) tt)
+        pub serve-is : (v : Val) → ent 𝓤 (Serve .post to-serve v) (H .⇛ (sep 𝓤 (mean 𝓤 H A (Alive 𝓤 κ q)) (fact 𝓤 (Is S.the-row (served r f (y .now) L) (v ∷ [])))))
+        serve-is v = is-said 𝓤 H A W S.the-row (served r f (y .now) L) v (mean 𝓤 H A (Alive 𝓤 κ q)) (ensured 𝓤 H A serve.ended (serve.clauses 𝓤 H A mem run) (κ, tt) (r, (f, (y, (L, tt)))) tt)
             (λ s. exE 𝓤 _ (λ ws. snd∗ 𝓤 (sem 𝓤 H A (lasts serve.ended (κ, tt) (r, (f, (y, (L, tt)))) ws)) (fact 𝓤 (s ≡ served r f (y .now) L))))
 
     module _ (r : Record) (L : ℕ) where
@@ -209,97 +192,56 @@ module _ {M : Type 1} (𝓤 : URA M) (H : Heap 𝓤) (A : Atoms 𝓤) (mem : Mem
       to-receive-alone = (((κ, tt), (q, tt), tt, (r, (y, (L, tt))), (machR r ∷ [], (slice-vals y, (vint w64 L ∷ [], tt)))), tt)
 
       module _ (W : Given 𝓤 H A) where
-        pub goes-receive-alone : Is T.the-row r (machR r ∷ []) → L < 2 ^ 64 → ent 𝓤 (mean 𝓤 H A (FrameAlive ⊛ Frame)) (ReceiveAlone .pre to-receive-alone)
+        pub goes-receive-alone : Is T.the-row r (machR r ∷ []) → L < 2 ^ 64 → ent 𝓤 (mean 𝓤 H A (Alive 𝓤 κ q ⊛ Part 𝓤 u8 κ y)) (ReceiveAlone .pre to-receive-alone)
         goes-receive-alone is fits =
-            qed W (FrameAlive ∷ Frame ∷ []) ∵ nothing ! $ owned ! u64 (Is u64) (uint-makes 𝓤 H A W w64) L _ (refl, fits) $ fjoin ! $ move ! (2 ∷ 0 ∷ []) $ fjoin ! $
+            qed W (Alive 𝓤 κ q ∷ Part 𝓤 u8 κ y ∷ []) ∵ nothing ! $ owned ! u64 (Is u64) (uint-makes 𝓤 H A W w64) L _ (refl, fits) $ fjoin ! $ move ! (2 ∷ 0 ∷ []) $ fjoin ! $
             owned ! T.the-row (Is T.the-row) (LL.makes T.the-type T′.the-plain 𝓤 H A) r _ is $ fjoin ! $ move ! (1 ∷ 0 ∷ []) $ join ! $ frame ! $ done !
 
-        pub receive-alone-is : (v : Val) → ent 𝓤 (ReceiveAlone .post to-receive-alone v) (H .⇛ (ex 𝓤 (λ (s : Served). sep 𝓤 (mean 𝓤 H A FrameAlive) (fact 𝓤 (ServesAlone r (y .now) L s × Is S.the-row s (v ∷ []))))))
-        receive-alone-is v = some-said 𝓤 H A W S.the-row (ServesAlone r (y .now) L) v (mean 𝓤 H A FrameAlive) (ensured 𝓤 H A receive-alone.ended (receive-alone.clauses 𝓤 H A mem run) (κ, tt) (r, (y, (L, tt))) tt)
+        pub receive-alone-is : (v : Val) → ent 𝓤 (ReceiveAlone .post to-receive-alone v) (H .⇛ (ex 𝓤 (λ (s : Served). sep 𝓤 (mean 𝓤 H A (Alive 𝓤 κ q)) (fact 𝓤 (ServesAlone r (y .now) L s × Is S.the-row s (v ∷ []))))))
+        receive-alone-is v = some-said 𝓤 H A W S.the-row (ServesAlone r (y .now) L) v (mean 𝓤 H A (Alive 𝓤 κ q)) (ensured 𝓤 H A receive-alone.ended (receive-alone.clauses 𝓤 H A mem run) (κ, tt) (r, (y, (L, tt))) tt)
             (λ s. exE 𝓤 _ (λ ws. snd∗ 𝓤 (sem 𝓤 H A (lasts receive-alone.ended (κ, tt) (r, (y, (L, tt))) ws)) (fact 𝓤 (ServesAlone r (y .now) L s))))
 
   -- ---- callees of admission and removal
-  abbrev pub PlaceToAdmit : Contract 𝓤
-  PlaceToAdmit = tripleOf 𝓤 H A place-to-admit.signature (place-to-admit.spec 𝓤 H A mem run)
+  abbrev pub Decide : Contract 𝓤
+  Decide = tripleOf 𝓤 H A deciding.signature (deciding.spec 𝓤 H A mem run)
 
-  module _ (n : ℕ) (f g : Found) where
-    abbrev pub to-place-to-admit : PlaceToAdmit .Ghost
-    to-place-to-admit = ((tt, tt, tt, (n, (f, (g, tt))), (vint w64 n ∷ [], (machF f ∷ [], (machF g ∷ [], tt)))), tt)
+  module _ (k : Asked) (id n : ℕ) (f g : Found) where
+    abbrev ArgAsked : Type 0
+    ArgAsked = Asked × (ℕ × (ℕ × (Found × (Found × Unit {0}))))
 
-    module _ (W : Given 𝓤 H A) where
-      pub goes-place-to-admit : n < 2 ^ 64 → Is F.the-row f (machF f ∷ []) → Is F.the-row g (machF g ∷ []) → ent 𝓤 (sem 𝓤 H A ftrue) (PlaceToAdmit .pre to-place-to-admit)
-      goes-place-to-admit fits is is′ =
-          qed W (‵ ftrue ∷ []) ∵ owned ! F.the-row (Is F.the-row) (EL.makes F.the-type F′.the-plain 𝓤 H A) g _ is′ $ fjoin ! $ owned ! F.the-row (Is F.the-row) (EL.makes F.the-type F′.the-plain 𝓤 H A) f _ is $ fjoin ! $
-          owned ! usize (Is usize) (uint-makes 𝓤 H A W w64) n _ (refl, fits) $ fjoin ! $ nothing ! $ join ! $ frame ! $ done !
+    abbrev with-asked : ArgAsked
+    with-asked = (k, (id, (n, (f, (g, tt)))))
 
-      pub place-to-admit-is : (v : Val) → ent 𝓤 (PlaceToAdmit .post to-place-to-admit v) (H .⇛ (sep 𝓤 (sem 𝓤 H A ftrue) (fact 𝓤 (Is X.the-row (placeToAdmit n f g) (v ∷ [])))))
-      place-to-admit-is v = is-said 𝓤 H A W X.the-row (placeToAdmit n f g) v (sem 𝓤 H A ftrue) (ensured 𝓤 H A place-to-admit.ended (place-to-admit.clauses 𝓤 H A mem run) tt (n, (f, (g, tt))) tt)
-          (λ r. exE 𝓤 _ (λ ws. snd∗ 𝓤 (sem 𝓤 H A (lasts place-to-admit.ended tt (n, (f, (g, tt))) ws)) (fact 𝓤 (r ≡ placeToAdmit n f g))))
-
-  abbrev pub PlaceToRemove : Contract 𝓤
-  PlaceToRemove = tripleOf 𝓤 H A place-to-remove.signature (place-to-remove.spec 𝓤 H A mem run)
-
-  module _ (n : ℕ) (f : Found) where
-    abbrev pub to-place-to-remove : PlaceToRemove .Ghost
-    to-place-to-remove = ((tt, tt, tt, (n, (f, tt)), (vint w64 n ∷ [], (machF f ∷ [], tt))), tt)
+    abbrev pub to-decide : Decide .Ghost
+    to-decide = ((tt, tt, tt, with-asked, (machK k ∷ [], (vint w64 id ∷ [], (vint w64 n ∷ [], (machF f ∷ [], (machF g ∷ [], tt)))))), tt)
 
     module _ (W : Given 𝓤 H A) where
-      pub goes-place-to-remove : n < 2 ^ 64 → Is F.the-row f (machF f ∷ []) → ent 𝓤 (sem 𝓤 H A ftrue) (PlaceToRemove .pre to-place-to-remove)
-      goes-place-to-remove fits is =
-          qed W (‵ ftrue ∷ []) ∵ owned ! F.the-row (Is F.the-row) (EL.makes F.the-type F′.the-plain 𝓤 H A) f _ is $ fjoin ! $ owned ! usize (Is usize) (uint-makes 𝓤 H A W w64) n _ (refl, fits) $ fjoin ! $ nothing ! $ join ! $ frame ! $ done !
+      pub goes-decide : Is K.the-row k (machK k ∷ []) → id < 2 ^ 64 → n < 2 ^ 64 → Is F.the-row f (machF f ∷ []) → Is F.the-row g (machF g ∷ []) → ent 𝓤 (sem 𝓤 H A ftrue) (Decide .pre to-decide)
+      goes-decide is id-fits n-fits is-f is-g =
+          qed W (‵ ftrue ∷ []) ∵ owned ! F.the-row (Is F.the-row) (EL.makes F.the-type F′.the-plain 𝓤 H A) g _ is-g $ fjoin ! $ owned ! F.the-row (Is F.the-row) (EL.makes F.the-type F′.the-plain 𝓤 H A) f _ is-f $ fjoin ! $
+          owned ! usize (Is usize) (uint-makes 𝓤 H A W w64) n _ (refl, n-fits) $ fjoin ! $ owned ! u64 (Is u64) (uint-makes 𝓤 H A W w64) id _ (refl, id-fits) $ fjoin ! $ owned ! K.the-row (Is K.the-row) (EL.makes K.the-type K′.the-plain 𝓤 H A) k _ is $ fjoin ! $ nothing ! $ join ! $ frame ! $ done !
 
-      pub place-to-remove-is : (v : Val) → ent 𝓤 (PlaceToRemove .post to-place-to-remove v) (H .⇛ (sep 𝓤 (sem 𝓤 H A ftrue) (fact 𝓤 (Is X.the-row (placeToRemove n f) (v ∷ [])))))
-      place-to-remove-is v = is-said 𝓤 H A W X.the-row (placeToRemove n f) v (sem 𝓤 H A ftrue) (ensured 𝓤 H A place-to-remove.ended (place-to-remove.clauses 𝓤 H A mem run) tt (n, (f, tt)) tt)
-          (λ r. exE 𝓤 _ (λ ws. snd∗ 𝓤 (sem 𝓤 H A (lasts place-to-remove.ended tt (n, (f, tt)) ws)) (fact 𝓤 (r ≡ placeToRemove n f))))
-
-  abbrev pub Admitted : Contract 𝓤
-  Admitted = tripleOf 𝓤 H A new-record.signature (new-record.spec 𝓤 H A mem run)
-
-  module _ (id : ℕ) where
-    abbrev pub to-admitted : Admitted .Ghost
-    to-admitted = ((tt, tt, tt, (id, tt), (vint w64 id ∷ [], tt)), tt)
-
-    module _ (W : Given 𝓤 H A) where
-      pub goes-admitted : id < 2 ^ 64 → ent 𝓤 (sem 𝓤 H A ftrue) (Admitted .pre to-admitted)
-      goes-admitted fits = qed W (‵ ftrue ∷ []) ∵ owned ! u64 (Is u64) (uint-makes 𝓤 H A W w64) id _ (refl, fits) $ fjoin ! $ nothing ! $ join ! $ frame ! $ done !
-
-      pub admitted-is : (v : Val) → ent 𝓤 (Admitted .post to-admitted v) (H .⇛ (sep 𝓤 (sem 𝓤 H A ftrue) (fact 𝓤 (Is T.the-row (admitted id) (v ∷ [])))))
-      admitted-is v = is-said 𝓤 H A W T.the-row (admitted id) v (sem 𝓤 H A ftrue) (ensured 𝓤 H A new-record.ended (new-record.clauses 𝓤 H A mem run) tt (id, tt) tt)
-          (λ r. exE 𝓤 _ (λ ws. snd∗ 𝓤 (sem 𝓤 H A (lasts new-record.ended tt (id, tt) ws)) (fact 𝓤 (r ≡ admitted id))))
-
-  abbrev pub UnusedRecord : Contract 𝓤
-  UnusedRecord = tripleOf 𝓤 H A unused-record.signature (unused-record.spec 𝓤 H A mem run)
-
-  abbrev pub to-unused : UnusedRecord .Ghost
-  to-unused = ((tt, tt, tt, tt, tt), tt)
-
-  module _ (W : Given 𝓤 H A) where
-    pub goes-unused : ent 𝓤 (sem 𝓤 H A ftrue) (UnusedRecord .pre to-unused)
-    goes-unused = qed W (‵ ftrue ∷ []) ∵ nothing ! $ join ! $ frame ! $ done !
-
-    pub unused-is : (v : Val) → ent 𝓤 (UnusedRecord .post to-unused v) (H .⇛ (sep 𝓤 (sem 𝓤 H A ftrue) (fact 𝓤 (Is T.the-row unused (v ∷ [])))))
-    unused-is v = is-said 𝓤 H A W T.the-row unused v (sem 𝓤 H A ftrue) (ensured 𝓤 H A unused-record.ended (unused-record.clauses 𝓤 H A mem run) tt tt tt)
-        (λ r. exE 𝓤 _ (λ ws. snd∗ 𝓤 (sem 𝓤 H A (lasts unused-record.ended tt tt ws)) (fact 𝓤 (r ≡ unused))))
+      pub decide-is : (v : Val) → ent 𝓤 (Decide .post to-decide v) (H .⇛ (sep 𝓤 (sem 𝓤 H A ftrue) (fact 𝓤 (Is X.the-row (targetOf k id n f g) (v ∷ [])))))
+      decide-is v = is-said 𝓤 H A W X.the-row (targetOf k id n f g) v (sem 𝓤 H A ftrue) (ensured 𝓤 H A deciding.ended (deciding.clauses 𝓤 H A mem run) tt with-asked tt)
+          (λ r. exE 𝓤 _ (λ ws. snd∗ 𝓤 (sem 𝓤 H A (lasts deciding.ended tt with-asked ws)) (fact 𝓤 (r ≡ targetOf k id n f g))))
 
   abbrev pub Store : Contract 𝓤
   Store = tripleOf 𝓤 H A store.signature (store.spec 𝓤 H A mem run)
 
-  module _ (κ : Lft) (q : Share) (b o : ℕ) (γ : GName) (ys : List Record) (t : Target) (r : Record) where
+  module _ (κ : Lft) (q : Share) (b o : ℕ) (γ : GName) (ys : List Record) (t : Target) where
     abbrev pub to-store : Store .Ghost
-    to-store = (((κ, tt), (q, tt), tt, (x κ q b o γ ys, (t, (r, tt))), (sliceVal (b, o) (length ys) ∷ [], (machX t ∷ [], (machR r ∷ [], tt)))), tt)
+    to-store = (((κ, tt), (q, tt), tt, (x b o γ ys, (t, tt)), (sliceVal (b, o) (length ys) ∷ [], (machX t ∷ [], tt))), tt)
 
     abbrev StoreSaid : Change → List Record → Type 0
-    StoreSaid c zs = (c ≡ changeOf t) × (zs ≡ changedAt t ys r)
+    StoreSaid c zs = (c ≡ changeOf t) × (zs ≡ changedAt t ys)
 
     module _ (W : Given 𝓤 H A) where
-      pub goes-store : Is X.the-row t (machX t ∷ []) → Is T.the-row r (machR r ∷ []) → Fits t (length ys) → ent 𝓤 (mean 𝓤 H A (Alive κ q b o γ ys ⊛ Mut κ q b o γ ys)) (Store .pre to-store)
-      goes-store is is′ fits =
-          qed W (Alive κ q b o γ ys ∷ Mut κ q b o γ ys ∷ []) ∵ says ! fits $ frame ! $ nothing ! $ owned ! T.the-row (Is T.the-row) (LL.makes T.the-type T′.the-plain 𝓤 H A) r _ is′ $ fjoin ! $
-          owned ! X.the-row (Is X.the-row) (EL.makes X.the-type X′.the-plain 𝓤 H A) t _ is $ fjoin ! $ move ! (1 ∷ 0 ∷ []) $ fjoin ! $ done !
+      pub goes-store : Is X.the-row t (machX t ∷ []) → Fits t (length ys) → ent 𝓤 (mean 𝓤 H A (Alive 𝓤 κ q ⊛ Mut κ b o γ ys)) (Store .pre to-store)
+      goes-store is fits = qed W (Alive 𝓤 κ q ∷ Mut κ b o γ ys ∷ []) ∵ says ! fits $ frame ! $ nothing ! $ owned ! X.the-row (Is X.the-row) (EL.makes X.the-type X′.the-plain 𝓤 H A) t _ is $ fjoin ! $ move ! (1 ∷ 0 ∷ []) $ fjoin ! $ done !
 
-      pub store-is : (v : Val) → ent 𝓤 (Store .post to-store v) (H .⇛ (sep 𝓤 (mean 𝓤 H A (Alive κ q b o γ ys ⊛ ‵ (finally T.the-row γ (changedAt t ys r)))) (fact 𝓤 (Is Y.the-row (changeOf t) (v ∷ [])))))
-      store-is v = is-last 𝓤 H A W Y.the-row T.the-row γ (changedAt t ys r) v (Alive κ q b o γ ys) (List Record × (Unit {0} × (Unit {0} × Unit {0}))) (λ z. z .0) (λ z. lasts store.ended (κ, tt) (x κ q b o γ ys, (t, (r, tt))) z) StoreSaid
-          (λ z. qed W (‵ (lasts store.ended (κ, tt) (x κ q b o γ ys, (t, (r, tt))) z) ∷ []) ∵ fsplit ! $ fsplit ! $ keep ! (0 ∷ []) $ done !) (changeOf t) (λ c l e. (e .1, e .0))
+      pub store-is : (v : Val) → ent 𝓤 (Store .post to-store v) (H .⇛ (sep 𝓤 (mean 𝓤 H A (Alive 𝓤 κ q ⊛ ‵ (finally T.the-row γ (changedAt t ys)))) (fact 𝓤 (Is Y.the-row (changeOf t) (v ∷ [])))))
+      store-is v = is-last 𝓤 H A W Y.the-row T.the-row γ (changedAt t ys) v (Alive 𝓤 κ q) (List Record × (Unit {0} × Unit {0})) (λ z. z .0) (λ z. lasts store.ended (κ, tt) (x b o γ ys, (t, tt)) z) StoreSaid
+          (λ z. qed W (‵ (lasts store.ended (κ, tt) (x b o γ ys, (t, tt)) z) ∷ []) ∵ fsplit ! $ fsplit ! $ keep ! (0 ∷ []) $ done !) (changeOf t) (λ c l e. (e .1, e .0))
 
   -- ---- callees that a local array is lent to
 
@@ -308,7 +250,7 @@ module _ {M : Type 1} (𝓤 : URA M) (H : Heap 𝓤) (A : Atoms 𝓤) (mem : Mem
     abbrev pub Answers : List Record → ℕ → Change → Type 0
     Answers ys id c = changeNumber c ≡ rule ys id .0
 
-    abbrev changes : Clauses 𝓤 admitting.ended
+    abbrev pub changes : Clauses 𝓤 admitting.ended
     changes κs a = record { ghost = Unit {0}; requires = λ g. emp 𝓤; ensures = λ g c end. fact 𝓤 (ChangedBy rule (now (a .0)) (a .1 .0) c (now (end .0))) }
 
     abbrev pub Changer : Contract 𝓤
@@ -319,18 +261,18 @@ module _ {M : Type 1} (𝓤 : URA M) (H : Heap 𝓤) (A : Atoms 𝓤) (mem : Mem
       ArgId = RefT (List Record) × (ℕ × Unit {0})
 
       abbrev with-id : ArgId
-      with-id = (x κ q b o γ ys, (id, tt))
+      with-id = (x b o γ ys, (id, tt))
 
       abbrev pub to-changer : Changer .Ghost
       to-changer = (((κ, tt), (q, tt), tt, with-id, (sliceVal (b, o) (length ys) ∷ [], (vint w64 id ∷ [], tt))), tt)
 
       module _ (W : Given 𝓤 H A) where
-        pub goes-changer : id < 2 ^ 64 → ent 𝓤 (mean 𝓤 H A (Alive κ q b o γ ys ⊛ Mut κ q b o γ ys)) (Changer .pre to-changer)
+        pub goes-changer : id < 2 ^ 64 → ent 𝓤 (mean 𝓤 H A (Alive 𝓤 κ q ⊛ Mut κ b o γ ys)) (Changer .pre to-changer)
         goes-changer fits =
-            qed W (Alive κ q b o γ ys ∷ Mut κ q b o γ ys ∷ []) ∵ nothing ! $ owned ! u64 (Is u64) (uint-makes 𝓤 H A W w64) id _ (refl, fits) $ fjoin ! $ move ! (2 ∷ 0 ∷ []) $ fjoin ! $ move ! (1 ∷ 0 ∷ []) $ join ! $ frame ! $ done !
+            qed W (Alive 𝓤 κ q ∷ Mut κ b o γ ys ∷ []) ∵ nothing ! $ owned ! u64 (Is u64) (uint-makes 𝓤 H A W w64) id _ (refl, fits) $ fjoin ! $ move ! (2 ∷ 0 ∷ []) $ fjoin ! $ move ! (1 ∷ 0 ∷ []) $ join ! $ frame ! $ done !
 
-        pub changer-is : (v : Val) → ent 𝓤 (Changer .post to-changer v) (H .⇛ (ex 𝓤 (λ (c : Change). sep 𝓤 (mean 𝓤 H A (Alive κ q b o γ ys ⊛ ‵ (finally T.the-row γ (rule ys id .1)))) (fact 𝓤 (Answers ys id c × Is Y.the-row c (v ∷ []))))))
-        changer-is v = some-last 𝓤 H A W Y.the-row T.the-row γ (rule ys id .1) v (Alive κ q b o γ ys) (List Record × (Unit {0} × Unit {0})) (λ z. z .0) (λ z. lasts admitting.ended (κ, tt) with-id z) (ChangedBy rule ys id)
+        pub changer-is : (v : Val) → ent 𝓤 (Changer .post to-changer v) (H .⇛ (ex 𝓤 (λ (c : Change). sep 𝓤 (mean 𝓤 H A (Alive 𝓤 κ q ⊛ ‵ (finally T.the-row γ (rule ys id .1)))) (fact 𝓤 (Answers ys id c × Is Y.the-row c (v ∷ []))))))
+        changer-is v = some-last 𝓤 H A W Y.the-row T.the-row γ (rule ys id .1) v (Alive 𝓤 κ q) (List Record × (Unit {0} × Unit {0})) (λ z. z .0) (λ z. lasts admitting.ended (κ, tt) with-id z) (ChangedBy rule ys id)
             (λ z. qed W (‵ (lasts admitting.ended (κ, tt) with-id z) ∷ []) ∵ fsplit ! $ fsplit ! $ keep ! (0 ∷ []) $ done !) (Answers ys id) (λ c l e. (e .table, e .number))
 
   abbrev pub Receive : Contract 𝓤
@@ -341,7 +283,7 @@ module _ {M : Type 1} (𝓤 : URA M) (H : Heap 𝓤) (A : Atoms 𝓤) (mem : Mem
     ArgFrame = RefT (List Record) × (RefT (List ℕ) × (ℕ × Unit {0}))
 
     abbrev with-frame : ArgFrame
-    with-frame = (x κ q b o γ ys, (y, (L, tt)))
+    with-frame = (x b o γ ys, (y, (L, tt)))
 
     abbrev pub to-receive : Receive .Ghost
     to-receive = (((κ, (κ₁, tt)), (q, (q₁, tt)), tt, with-frame, (sliceVal (b, o) (length ys) ∷ [], (slice-vals y, (vint w64 L ∷ [], tt)))), tt)
@@ -351,12 +293,12 @@ module _ {M : Type 1} (𝓤 : URA M) (H : Heap 𝓤) (A : Atoms 𝓤) (mem : Mem
     Tells r = receiptAnswer r (y .now) ≡ receive ys (y .now) L .0
 
     module _ (W : Given 𝓤 H A) where
-      pub goes-receive : L < 2 ^ 64 → ent 𝓤 (mean 𝓤 H A ((‵ (flft κ q) ⊛ (FrameAlive κ₁ q₁ y ⊛ Frame κ₁ q₁ y)) ⊛ Mut κ q b o γ ys)) (Receive .pre to-receive)
+      pub goes-receive : L < 2 ^ 64 → ent 𝓤 (mean 𝓤 H A ((‵ (flft κ q) ⊛ (Alive 𝓤 κ₁ q₁ ⊛ Part 𝓤 u8 κ₁ y)) ⊛ Mut κ b o γ ys)) (Receive .pre to-receive)
       goes-receive fits =
-          qed W ((‵ (flft κ q) ⊛ (FrameAlive κ₁ q₁ y ⊛ Frame κ₁ q₁ y)) ∷ Mut κ q b o γ ys ∷ []) ∵ split ! $ move ! (1 ∷ []) $ split ! $
+          qed W ((‵ (flft κ q) ⊛ (Alive 𝓤 κ₁ q₁ ⊛ Part 𝓤 u8 κ₁ y)) ∷ Mut κ b o γ ys ∷ []) ∵ split ! $ move ! (1 ∷ []) $ split ! $
           -- [the frame's token; what the frame owns; the table's token; what the table owns]
           nothing ! $ owned ! u64 (Is u64) (uint-makes 𝓤 H A W w64) L _ (refl, fits) $ fjoin ! $ move ! (2 ∷ 0 ∷ []) $ fjoin ! $ move ! (3 ∷ 0 ∷ []) $ fjoin ! $ move ! (2 ∷ 1 ∷ []) $ join ! $ join ! $ frame ! $ done !
 
-      pub receive-is : (v : Val) → ent 𝓤 (Receive .post to-receive v) (H .⇛ (ex 𝓤 (λ (r : Receipt). sep 𝓤 (mean 𝓤 H A ((‵ (flft κ q) ⊛ FrameAlive κ₁ q₁ y) ⊛ ‵ (finally T.the-row γ (receive ys (y .now) L .1)))) (fact 𝓤 (Tells r × Is P.the-row r (v ∷ []))))))
-      receive-is v = some-last 𝓤 H A W P.the-row T.the-row γ (receive ys (y .now) L .1) v (‵ (flft κ q) ⊛ FrameAlive κ₁ q₁ y) (List Record × (Unit {0} × (Unit {0} × Unit {0}))) (λ z. z .0) (λ z. lasts receiving.ended (κ, (κ₁, tt)) with-frame z) (Receives ys (y .now) L)
+      pub receive-is : (v : Val) → ent 𝓤 (Receive .post to-receive v) (H .⇛ (ex 𝓤 (λ (r : Receipt). sep 𝓤 (mean 𝓤 H A ((‵ (flft κ q) ⊛ Alive 𝓤 κ₁ q₁) ⊛ ‵ (finally T.the-row γ (receive ys (y .now) L .1)))) (fact 𝓤 (Tells r × Is P.the-row r (v ∷ []))))))
+      receive-is v = some-last 𝓤 H A W P.the-row T.the-row γ (receive ys (y .now) L .1) v (‵ (flft κ q) ⊛ Alive 𝓤 κ₁ q₁) (List Record × (Unit {0} × (Unit {0} × Unit {0}))) (λ z. z .0) (λ z. lasts receiving.ended (κ, (κ₁, tt)) with-frame z) (Receives ys (y .now) L)
           (λ z. qed W (‵ (lasts receiving.ended (κ, (κ₁, tt)) with-frame z) ∷ []) ∵ fsplit ! $ fsplit ! $ keep ! (0 ∷ []) $ done !) Tells (λ r l e. (e .table, e .answer))

@@ -5,5 +5,6 @@ pub mod Callees
 pub mod Searched
 pub mod Receiving
 pub mod Changing
+pub mod Asking
 pub mod ByValue
 pub mod ReceivingByValue

@@ -1,5 +1,5 @@
 -- The machine values of the types that a table's functions pass and return, and the fields that they read of them.
--- In the proofs a type's rows and laws go by one letter: T a record, S what is served, P a receipt, N a refusal, U the fields of a frame, G what the reader says, Q what a search looks for, F what it finds, X where a record is stored, Y what admission and removal answer, B and D those two beside a whole table.
+-- In the proofs a type's rows and laws go by one letter: T a record, S what is served, P a receipt, N a refusal, U the fields of a frame, G what the reader says, Q what a search looks for, F what it finds, K what is asked, X where a record is stored, Y what admission and removal answer, B and D those two beside a whole table.
 -- A field of a large type is read by `..-field` and `..-part`, which are settled here once: in a walk the types would be spelled out at each step.
 -- Assumes `Given`.
 use mathlib.Core.Path.{_≡_, refl}
@@ -35,8 +35,11 @@ use Rattle.frame.proofs.Reading.Laws as G′
 use Rattle.table.specs.declared.Found.{Found}
 use Rattle.table.specs.declared.Wanted.{Wanted}
 use Rattle.table.specs.declared.Wanted.the-variants.{Holding}
+use Rattle.table.specs.declared.Asked.{Asked}
 use Rattle.table.specs.declared.Target.{Target}
 use Rattle.table.specs.declared.Change.{Change}
+use Rattle.table.proofs.Asked as K
+use Rattle.table.proofs.Asked.Laws as K′
 use Rattle.table.proofs.Target as X
 use Rattle.table.proofs.Target.Laws as X′
 use Rattle.table.proofs.Change as Y
@@ -79,6 +82,9 @@ machQ w = EL.val Q.the-type Q′.the-laws w
 
 abbrev pub machF : Found → Val
 machF f = EL.val F.the-type F′.the-laws f
+
+abbrev pub machK : Asked → Val
+machK k = EL.val K.the-type K′.the-laws k
 
 abbrev pub machX : Target → Val
 machX x = EL.val X.the-type X′.the-laws x

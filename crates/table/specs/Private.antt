@@ -1,27 +1,30 @@
 -- What the private calls answer. No public contract speaks of it.
-use Prim.Native.Nat.{ℕ}
+use Prim.Native.Nat.{ℕ, _<_}
 use mathlib.Core.Bool.{Bool, cond}
 use mathlib.Core.List.{List, _∷_}
 use lib.Dec.{ltb}
 use lib.ListN.{set}
 use Rattle.refusal.specs.declared.Refusal.the-variants.{TableTooLong, AlreadyAdmitted, TableFull, NothingToRemove}
-use Rattle.refusal.specs.Refusals.{_answers_, firstOf, ifAccepted}
+use Rattle.refusal.specs.Refusals.{_answers_, firstOf}
 use Rattle.frame.specs.Checks.{frameChecks}
 use Rattle.frame.specs.declared.layout.Fields.{Fields}
 use Rattle.frame.specs.Reading.{ReadAnswer, readingBy, dataOf}
 use Rattle.stream.specs.declared.Record.{Record}
 use Rattle.stream.specs.declared.Receipt.the-variants.{Accepted}
+use Rattle.stream.specs.Records.{unused, admitted}
 use Rattle.stream.specs.Step.{stepped}
 use Rattle.table.specs.declared.Served.{Served}
 use Rattle.table.specs.declared.Found.{Found}
 use Rattle.table.specs.declared.Found.the-variants.{At, Nothing}
 use Rattle.table.specs.declared.Wanted.{Wanted}
 use Rattle.table.specs.declared.Wanted.the-variants.{Holding, Unused}
+use Rattle.table.specs.declared.Asked.{Asked}
+use Rattle.table.specs.declared.Asked.the-variants.{Admission, Removal}
 use Rattle.table.specs.declared.Target.{Target}
 use Rattle.table.specs.declared.Target.the-variants.{Place, Refuse}
 use Rattle.table.specs.declared.Change.{Change}
 use Rattle.table.specs.declared.Change.the-variants.{Made, Refused}
-use Rattle.table.specs.Table.{Table, holds, isUnused, any, place, changeNumber}
+use Rattle.table.specs.Table.{Table, holds, isUnused, any, place}
 
 -- ---- The reader
 
@@ -38,37 +41,33 @@ wants Unused = isUnused
 unfoldable pub find : Table → Wanted → Found
 find t w = cond (any (wants w) t) (At (place (wants w) t)) Nothing
 
--- ---- Where a record is stored, or why none is
+-- ---- Where a record is stored, and which, or why none is
 
-abbrev admitAt : Found → Found → Target
-admitAt (At j) free = Refuse AlreadyAdmitted
-admitAt Nothing (At i) = Place i
-admitAt Nothing Nothing = Refuse TableFull
+-- admission takes the lowest unused place, unless the id is held already; removal that of the record that holds it
+abbrev targetAt : Asked → ℕ → Found → Found → Target
+targetAt Admission id (At j) free = Refuse AlreadyAdmitted
+targetAt Admission id Nothing (At i) = Place i (admitted id)
+targetAt Admission id Nothing Nothing = Refuse TableFull
+targetAt Removal id (At i) free = Place i unused
+targetAt Removal id Nothing free = Refuse NothingToRemove
 
-abbrev removeAt : Found → Target
-removeAt (At i) = Place i
-removeAt Nothing = Refuse NothingToRemove
+-- 20 before all else
+unfoldable pub targetOf : Asked → ℕ → ℕ → Found → Found → Target
+targetOf asked id n held free = cond (ltb 64 n) (Refuse TableTooLong) (targetAt asked id held free)
 
--- admission takes the place of the unused record, unless the id is held already
-unfoldable pub placeToAdmit : ℕ → Found → Found → Target
-placeToAdmit n held free = cond (ltb 64 n) (Refuse TableTooLong) (admitAt held free)
-
--- removal takes the place of the record that holds the id
-unfoldable pub placeToRemove : ℕ → Found → Target
-placeToRemove n held = cond (ltb 64 n) (Refuse TableTooLong) (removeAt held)
-
--- what is answered, and the place where there is one
+-- what is answered, and the table afterwards
 abbrev pub changeOf : Target → Change
-changeOf (Place i) = Made
-changeOf (Refuse r) = Refused r
+changeOf (Place i r) = Made
+changeOf (Refuse c) = Refused c
 
-abbrev pub placeOf : Target → ℕ
-placeOf (Place i) = i
-placeOf (Refuse r) = 0
+abbrev pub changedAt : Target → Table → Table
+changedAt (Place i r) t = set t i r
+changedAt (Refuse c) t = t
 
--- the table with a record at the target's place, where there is one
-abbrev pub changedAt : Target → Table → Record → Table
-changedAt x t r = ifAccepted (changeNumber (changeOf x)) (set t (placeOf x) r) t
+-- the place, where there is one, is in a table of n records
+abbrev pub Fits : Target → ℕ → Type 0
+Fits (Place i r) n = i < n
+Fits (Refuse c) n = Unit {0}
 
 -- ---- The step of a frame that has been read, and its receipt
 

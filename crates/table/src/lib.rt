@@ -13,8 +13,8 @@ ghost use lib.ListN.{length, set, replicate};
 ghost use Rattle.frame.specs.Reading.{readAnswer};
 ghost use Rattle.stream.specs.Records.{unused};
 ghost use Rattle.stream.specs.declared.Receipt.the-variants.{Refused};
-ghost use Rattle.table.specs.Table.{at, changeNumber, admit, remove, ChangedBy, Receives, ReceivesAlone};
-ghost use Rattle.table.specs.Private.{wants, find, readingFor, placeToAdmit, placeToRemove, changeOf, placeOf, changedAt, served};
+ghost use Rattle.table.specs.Table.{at, admit, remove, ChangedBy, Receives, ReceivesAlone};
+ghost use Rattle.table.specs.Private.{wants, find, readingFor, targetOf, changeOf, changedAt, Fits, served};
 
 // What a search looks for: the record in use that holds an id, or an unused one.
 pub(crate) enum Wanted {
@@ -27,9 +27,15 @@ pub(crate) enum Found {
     Nothing,
 }
 
-// Where a record is to be stored, or why none is.
+// What is asked of a table for an id.
+pub(crate) enum Asked {
+    Admission,
+    Removal,
+}
+
+// Where a record is to be stored, and which, or why none is.
 pub(crate) enum Target {
-    Place(usize),
+    Place(usize, Record),
     Refuse(Refusal),
 }
 
@@ -188,43 +194,37 @@ pub fn receive(table: &mut [Record], frame: &[u8], arrival_time: u64) -> Receipt
     }
 }
 
-// Admission takes the place of the unused record, unless the id is held already.
-fn place_to_admit(n: usize, held: Found, free: Found) -> Target
-    ensures { λ r. ⌜ r ≡ placeToAdmit n held free ⌝ }
+// Where a record is stored for an id, and which, or why none is: 20 before all else. Admission takes the lowest unused record, unless the id
+// is held already; removal makes the record that holds the id unused again.
+fn decide(asked: Asked, id: u64, n: usize, held: Found, free: Found) -> Target
+    ensures { λ r. ⌜ r ≡ targetOf asked id n held free ⌝ }
 {
     if is_too_long(n) {
         return Target::Refuse(Refusal::TableTooLong);
     }
-    match held {
-        Found::At(_) => Target::Refuse(Refusal::AlreadyAdmitted),
-        Found::Nothing => match free {
-            Found::At(i) => Target::Place(i),
-            Found::Nothing => Target::Refuse(Refusal::TableFull),
+    match asked {
+        Asked::Admission => match held {
+            Found::At(_) => Target::Refuse(Refusal::AlreadyAdmitted),
+            Found::Nothing => match free {
+                Found::At(i) => Target::Place(i, stream::admitted(id)),
+                Found::Nothing => Target::Refuse(Refusal::TableFull),
+            },
+        },
+        Asked::Removal => match held {
+            Found::At(i) => Target::Place(i, stream::unused()),
+            Found::Nothing => Target::Refuse(Refusal::NothingToRemove),
         },
     }
 }
 
-// Removal takes the place of the record that holds the id.
-fn place_to_remove(n: usize, held: Found) -> Target
-    ensures { λ r. ⌜ r ≡ placeToRemove n held ⌝ }
-{
-    if is_too_long(n) {
-        return Target::Refuse(Refusal::TableTooLong);
-    }
-    match held {
-        Found::At(i) => Target::Place(i),
-        Found::Nothing => Target::Refuse(Refusal::NothingToRemove),
-    }
-}
-
-// A record is stored at the target, where there is one.
-fn store(table: &mut [Record], target: Target, r: Record) -> Change
-    requires { ⌜ (changeNumber (changeOf target) ≡ 0 → placeOf target < length (now table)) ⌝ }
-    ensures { λ c. ⌜ (c ≡ changeOf target) × (now (table .exit) ≡ changedAt target (now (table .entry)) r) ⌝ }
+// The target's record is stored, where there is one.
+fn store(table: &mut [Record], target: Target) -> Change
+    requires { ⌜ Fits target (length (now table)) ⌝ }
+    ensures { λ c. ⌜ (c ≡ changeOf target) × (now (table .exit) ≡ changedAt target (now (table .entry))) ⌝ }
 {
     match target {
         Target::Refuse(refusal) => Change::Refused(refusal),
-        Target::Place(i) => {
+        Target::Place(i, r) => {
             put(table, i, r);
             Change::Made
         }
@@ -237,17 +237,19 @@ pub fn admit(table: &mut [Record], id: u64) -> Change
 {
     let held = find(table, Wanted::Holding(id));
     let free = find(table, Wanted::Unused);
-    let target = place_to_admit(table.len(), held, free);
-    store(table, target, stream::admitted(id))
+    let target = decide(Asked::Admission, id, table.len(), held, free);
+    store(table, target)
 }
 
-// The stream's record is unused again, with every field zero.
+// The stream's record is unused again, with every field zero. Removal has no need of an unused place; it is searched for all the same, so
+// that the two calls differ in what is asked alone, and one proof is for both.
 pub fn remove(table: &mut [Record], id: u64) -> Change
     ensures { λ r. ⌜ ChangedBy remove (now (table .entry)) id r (now (table .exit)) ⌝ }
 {
     let found = find(table, Wanted::Holding(id));
-    let target = place_to_remove(table.len(), found);
-    store(table, target, stream::unused())
+    let free = find(table, Wanted::Unused);
+    let target = decide(Asked::Removal, id, table.len(), found, free);
+    store(table, target)
 }
 
 // Receiving, admission and removal over a table of 64 records by value.

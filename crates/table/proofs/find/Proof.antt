@@ -56,10 +56,11 @@ use Rattle.table.proofs.Wanted as Q
 use Rattle.table.proofs.Wanted.Laws as Q′
 use Rattle.table.proofs.Machine.{machR, machF, machQ}
 use Rattle.walks.proofs.Calls.{calls-is}
+use Rattle.walks.proofs.Lending.{Part, Alive}
 use Rattle.walks.proofs.Pieces.{rest-of}
 use Rattle.walks.proofs.Locals.{Slots, freed}
 use Rattle.table.proofs.Searched.{findFrom, at-first, stops-at, passes-by, ends-there}
-use Rattle.table.proofs.Callees.{IsWanted, to-is-wanted, goes-is-wanted, is-wanted-is, Get, Shr, Alive, to-get, goes-get, get-is}
+use Rattle.table.proofs.Callees.{IsWanted, to-is-wanted, goes-is-wanted, is-wanted-is, Get, to-get, goes-get, get-is}
 use Rattle.table.proofs.get.Symbol as get-def
 use Rattle.table.proofs.get.Symbol.{name as #table·get}
 use Rattle.table.proofs.get.Met as get-thm
@@ -92,10 +93,10 @@ module _ {M : Type 1} (𝓤 : URA M) (H : Heap 𝓤) (A : Atoms 𝓤) (W : Given
   vals = (s ∷ [], (machQ w ∷ [], tt))
 
   abbrev Live : Item 𝓤
-  Live = Alive 𝓤 H A mem run κ q b o γ ys
+  Live = Alive 𝓤 κ q
 
   abbrev Own : Item 𝓤
-  Own = Shr 𝓤 H A mem run κ q b o γ ys
+  Own = Part 𝓤 T.the-row κ x
 
   abbrev Post : Val → SProp 𝓤
   Post = walkOf 𝓤 H A this.ended stayed (this.clauses 𝓤 H A mem run) .post (((κ, tt), (q, tt), tt, a, vals), tt)

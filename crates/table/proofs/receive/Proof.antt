@@ -79,12 +79,12 @@ use Rattle.table.proofs.Wanted as Q
 use Rattle.table.proofs.Wanted.Laws as Q′
 use Rattle.table.proofs.Machine.{machR, machS, machP, machN, machU, machG, machQ, machF, after-field, after-part, receipt-field, receipt-part, of-after, of-receipt, of-stream}
 use Rattle.walks.proofs.Calls.{calls-is, calls-some}
-use Rattle.walks.proofs.Lending.{Mine, calls-sharing, calls-lending}
+use Rattle.walks.proofs.Lending.{Part, Alive, Mine, calls-sharing, calls-lending}
 use Rattle.walks.proofs.Locals.{Slots, freed}
 use Rattle.walks.proofs.Pieces.{first-of, rest-of, arm-of}
 use Rattle.table.proofs.Searched.{found-within}
 use Rattle.table.proofs.Receiving.{receives-refused, receives-unadmitted, receives-served}
-use Rattle.table.proofs.Callees.{Get, to-get, goes-get, get-is, Find, to-find, goes-find, find-is, Put, to-put, goes-put, put-is, Frame, FrameAlive, ReadFor, ReadForSaid, to-read-for, goes-read-for, read-for-is, Serve, to-serve, goes-serve, serve-is}
+use Rattle.table.proofs.Callees.{Get, to-get, goes-get, get-is, Find, to-find, goes-find, find-is, Put, to-put, goes-put, put-is, ReadFor, ReadForSaid, to-read-for, goes-read-for, read-for-is, Serve, to-serve, goes-serve, serve-is}
 use Rattle.table.proofs.get.Symbol as get-def
 use Rattle.table.proofs.get.Symbol.{name as #table·get}
 use Rattle.table.proofs.get.Met as get-thm
@@ -147,10 +147,10 @@ module _ {M : Type 1} (𝓤 : URA M) (H : Heap 𝓤) (A : Atoms 𝓤) (W : Given
   Tok = ‵ (flft κ q)
 
   abbrev Fr : Item 𝓤
-  Fr = Frame 𝓤 H A mem run κ₁ q₁ y
+  Fr = Part 𝓤 u8 κ₁ y
 
   abbrev FrTok : Item 𝓤
-  FrTok = FrameAlive 𝓤 H A mem run κ₁ q₁ y
+  FrTok = Alive 𝓤 κ₁ q₁
 
   exits : (r : Receipt) (zs : List Record) → Receives ys (y .now) L r zs → length zs ≡ length ys → Is P.the-row r (machP r ∷ []) → ent 𝓤 (mean 𝓤 H A (((Own zs ⊛ Tok) ⊛ Fr) ⊛ FrTok)) (Post (machP r))
   exits r zs said same ok =

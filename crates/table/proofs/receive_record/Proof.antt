@@ -52,8 +52,9 @@ use Rattle.stream.proofs.Receipt.Laws as P′
 use Rattle.table.proofs.Receiving.{ServesAlone}
 use Rattle.table.proofs.Machine.{machR, machS, machP, after-field, after-part, receipt-field, receipt-part, of-after, of-receipt}
 use Rattle.walks.proofs.Calls.{calls-some}
+use Rattle.walks.proofs.Lending.{Part, Alive}
 use Rattle.walks.proofs.Locals.{Slots, freed}
-use Rattle.table.proofs.Callees.{Frame, FrameAlive, ReceiveAlone, to-receive-alone, goes-receive-alone, receive-alone-is}
+use Rattle.table.proofs.Callees.{ReceiveAlone, to-receive-alone, goes-receive-alone, receive-alone-is}
 use Rattle.table.proofs.receive_alone.Symbol as receive-alone-def
 use Rattle.table.proofs.receive_alone.Symbol.{name as #table·receive-alone}
 use Rattle.table.proofs.receive_alone.Met as receive-alone-thm
@@ -87,10 +88,10 @@ module _ {M : Type 1} (𝓤 : URA M) (H : Heap 𝓤) (A : Atoms 𝓤) (W : Given
   Post = walkOf 𝓤 H A this.ended stayed (this.clauses 𝓤 H A at-mem run) .post (((κ, (κ₁, tt)), (q, (q₁, tt)), bounds, a, vals), tt)
 
   abbrev Fr : Item 𝓤
-  Fr = Frame 𝓤 H A at-mem run κ₁ q₁ y
+  Fr = Part 𝓤 u8 κ₁ y
 
   abbrev FrTok : Item 𝓤
-  FrTok = FrameAlive 𝓤 H A at-mem run κ₁ q₁ y
+  FrTok = Alive 𝓤 κ₁ q₁
 
   -- what is had at exit with the record h′: its borrow and its token, the frame's token, and what the frame owns
   abbrev Kept : Record → Item 𝓤
