@@ -49,7 +49,7 @@ use Rattle.table.proofs.Change as Y
 use Rattle.table.proofs.Change.Laws as Y′
 use Rattle.table.proofs.Machine.{machP, machY}
 use Rattle.walks.proofs.Calls.{some-said}
-use Rattle.walks.proofs.Lending.{Token, Mine}
+use Rattle.walks.proofs.Lending.{Part, Alive, Token, Mine}
 use Rattle.table.proofs.receive as receiving
 use Rattle.table.proofs.admit as admitting
 use Rattle.table.proofs.Callees.{Changer, Answers}
@@ -81,14 +81,6 @@ machO o = EL.val O.the-type O′.the-laws o
 
 module _ {M : Type 1} (𝓤 : URA M) (H : Heap 𝓤) (A : Atoms 𝓤) (mem : Memory → SProp 𝓤) (run : Routine → Fun 𝓤) where
   -- ---- callees that take a part of the chunk and hand one back
-  module _ (κ : Lft) (q : Share) (y : RefT (List ℕ)) where
-    -- what a `&[u8]` owns, and its lifetime's token
-    abbrev pub Part : Item 𝓤
-    Part = ‵ (ShrSlice (named 0) κ u8 .own y (slice-vals y))
-
-    abbrev pub PartAlive : Item 𝓤
-    PartAlive = ‵ (flft κ q) ⊛ ‵ ftrue
-
   abbrev pub FrameIn : Contract 𝓤
   FrameIn = tripleOf 𝓤 H A framing.signature (framing.spec 𝓤 H A mem run)
 
@@ -107,11 +99,11 @@ module _ {M : Type 1} (𝓤 : URA M) (H : Heap 𝓤) (A : Atoms 𝓤) (mem : Mem
     InPlace z = fact 𝓤 (StandsIn (y .ptr) 12 (z .ptr) (12 ≤ length (y .now)))
 
     module _ (W : Given 𝓤 H A) where
-      pub goes-frame-in : ent 𝓤 (mean 𝓤 H A (PartAlive κ q y ⊛ Part κ q y)) (FrameIn .pre to-frame-in)
-      goes-frame-in = qed W (PartAlive κ q y ∷ Part κ q y ∷ []) ∵ nothing ! $ move ! (2 ∷ 0 ∷ []) $ fjoin ! $ move ! (1 ∷ 0 ∷ []) $ join ! $ frame ! $ done !
+      pub goes-frame-in : ent 𝓤 (mean 𝓤 H A (Alive 𝓤 κ q ⊛ Part 𝓤 u8 κ y)) (FrameIn .pre to-frame-in)
+      goes-frame-in = qed W (Alive 𝓤 κ q ∷ Part 𝓤 u8 κ y ∷ []) ∵ nothing ! $ move ! (2 ∷ 0 ∷ []) $ fjoin ! $ move ! (1 ∷ 0 ∷ []) $ join ! $ frame ! $ done !
 
-      pub frame-in-is : (v : Val) → ent 𝓤 (FrameIn .post to-frame-in v) (H .⇛ (ex 𝓤 (λ (z : RefT (List ℕ)). sep 𝓤 (sep 𝓤 (mean 𝓤 H A (PartAlive κ q y)) (sem 𝓤 H A (ShrSlice (named 0) κ u8 .own z (v ∷ [])))) (fact 𝓤 (FrameInSaid z)))))
-      frame-in-is v = kept-said 𝓤 H A W (ShrSlice (named 0) κ u8) FrameInSaid v (mean 𝓤 H A (PartAlive κ q y)) (ensured 𝓤 H A framing.ended (framing.clauses 𝓤 H A mem run) (κ, tt) (y, tt) tt)
+      pub frame-in-is : (v : Val) → ent 𝓤 (FrameIn .post to-frame-in v) (H .⇛ (ex 𝓤 (λ (z : RefT (List ℕ)). sep 𝓤 (sep 𝓤 (mean 𝓤 H A (Alive 𝓤 κ q)) (sem 𝓤 H A (ShrSlice (named 0) κ u8 .own z (v ∷ [])))) (fact 𝓤 (FrameInSaid z)))))
+      frame-in-is v = kept-said 𝓤 H A W (ShrSlice (named 0) κ u8) FrameInSaid v (mean 𝓤 H A (Alive 𝓤 κ q)) (ensured 𝓤 H A framing.ended (framing.clauses 𝓤 H A mem run) (κ, tt) (y, tt) tt)
           (λ z. exE 𝓤 _ (λ ws. via 𝓤 _ (snd∗ 𝓤 (sem 𝓤 H A (lasts framing.ended (κ, tt) (y, tt) ws)) (sep 𝓤 (fact 𝓤 (FrameInSaid z)) (InPlace z))) (fst∗ 𝓤 (fact 𝓤 (FrameInSaid z)) (InPlace z))))
 
     module _ (at : ℕ) (e : Entry) where
@@ -122,13 +114,13 @@ module _ {M : Type 1} (𝓤 : URA M) (H : Heap 𝓤) (A : Atoms 𝓤) (mem : Mem
       RecordOfSaid z = z .now ≡ part at (sizeAhead (frontOf e)) (y .now)
 
       module _ (W : Given 𝓤 H A) where
-        pub goes-record-of : at < 2 ^ 64 → Is I.the-row e (machI e ∷ []) → ent 𝓤 (mean 𝓤 H A (PartAlive κ q y ⊛ Part κ q y)) (RecordOf .pre to-record-of)
+        pub goes-record-of : at < 2 ^ 64 → Is I.the-row e (machI e ∷ []) → ent 𝓤 (mean 𝓤 H A (Alive 𝓤 κ q ⊛ Part 𝓤 u8 κ y)) (RecordOf .pre to-record-of)
         goes-record-of fits is =
-            qed W (PartAlive κ q y ∷ Part κ q y ∷ []) ∵ nothing ! $ owned ! I.the-row (Is I.the-row) (EL.makes I.the-type I′.the-plain 𝓤 H A) e _ is $ fjoin ! $ owned ! usize (Is usize) (uint-makes 𝓤 H A W w64) at _ (refl, fits) $ fjoin ! $
+            qed W (Alive 𝓤 κ q ∷ Part 𝓤 u8 κ y ∷ []) ∵ nothing ! $ owned ! I.the-row (Is I.the-row) (EL.makes I.the-type I′.the-plain 𝓤 H A) e _ is $ fjoin ! $ owned ! usize (Is usize) (uint-makes 𝓤 H A W w64) at _ (refl, fits) $ fjoin ! $
             move ! (2 ∷ 0 ∷ []) $ fjoin ! $ move ! (1 ∷ 0 ∷ []) $ join ! $ frame ! $ done !
 
-        pub record-of-is : (v : Val) → ent 𝓤 (RecordOf .post to-record-of v) (H .⇛ (ex 𝓤 (λ (z : RefT (List ℕ)). sep 𝓤 (sep 𝓤 (mean 𝓤 H A (PartAlive κ q y)) (sem 𝓤 H A (ShrSlice (named 0) κ u8 .own z (v ∷ [])))) (fact 𝓤 (RecordOfSaid z)))))
-        record-of-is v = kept-said 𝓤 H A W (ShrSlice (named 0) κ u8) RecordOfSaid v (mean 𝓤 H A (PartAlive κ q y)) (ensured 𝓤 H A record-of.ended (record-of.clauses 𝓤 H A mem run) (κ, tt) (y, (at, (e, tt))) tt)
+        pub record-of-is : (v : Val) → ent 𝓤 (RecordOf .post to-record-of v) (H .⇛ (ex 𝓤 (λ (z : RefT (List ℕ)). sep 𝓤 (sep 𝓤 (mean 𝓤 H A (Alive 𝓤 κ q)) (sem 𝓤 H A (ShrSlice (named 0) κ u8 .own z (v ∷ [])))) (fact 𝓤 (RecordOfSaid z)))))
+        record-of-is v = kept-said 𝓤 H A W (ShrSlice (named 0) κ u8) RecordOfSaid v (mean 𝓤 H A (Alive 𝓤 κ q)) (ensured 𝓤 H A record-of.ended (record-of.clauses 𝓤 H A mem run) (κ, tt) (y, (at, (e, tt))) tt)
             (λ z. exE 𝓤 _ (λ ws. snd∗ 𝓤 (sem 𝓤 H A (lasts record-of.ended (κ, tt) (y, (at, (e, tt))) ws)) (fact 𝓤 (RecordOfSaid z))))
 
   -- ---- callees that say what stands at the front
@@ -143,13 +135,13 @@ module _ {M : Type 1} (𝓤 : URA M) (H : Heap 𝓤) (A : Atoms 𝓤) (mem : Mem
     FrontOfSaid e = frontOf e ≡ cond (roomy len put) (entryOf (drop-list at (y .now))) end
 
     module _ (W : Given 𝓤 H A) where
-      pub goes-front-of : at < 2 ^ 64 → len < 2 ^ 64 → put < 2 ^ 64 → ent 𝓤 (mean 𝓤 H A (PartAlive κ q y ⊛ Part κ q y)) (FrontOf .pre to-front-of)
+      pub goes-front-of : at < 2 ^ 64 → len < 2 ^ 64 → put < 2 ^ 64 → ent 𝓤 (mean 𝓤 H A (Alive 𝓤 κ q ⊛ Part 𝓤 u8 κ y)) (FrontOf .pre to-front-of)
       goes-front-of fits₀ fits₁ fits₂ =
-          qed W (PartAlive κ q y ∷ Part κ q y ∷ []) ∵ nothing ! $ owned ! usize (Is usize) (uint-makes 𝓤 H A W w64) put _ (refl, fits₂) $ fjoin ! $ owned ! usize (Is usize) (uint-makes 𝓤 H A W w64) len _ (refl, fits₁) $ fjoin ! $ owned ! usize (Is usize) (uint-makes 𝓤 H A W w64) at _ (refl, fits₀) $ fjoin ! $
+          qed W (Alive 𝓤 κ q ∷ Part 𝓤 u8 κ y ∷ []) ∵ nothing ! $ owned ! usize (Is usize) (uint-makes 𝓤 H A W w64) put _ (refl, fits₂) $ fjoin ! $ owned ! usize (Is usize) (uint-makes 𝓤 H A W w64) len _ (refl, fits₁) $ fjoin ! $ owned ! usize (Is usize) (uint-makes 𝓤 H A W w64) at _ (refl, fits₀) $ fjoin ! $
           move ! (2 ∷ 0 ∷ []) $ fjoin ! $ move ! (1 ∷ 0 ∷ []) $ join ! $ frame ! $ done !
 
-      pub front-of-is : (v : Val) → ent 𝓤 (FrontOf .post to-front-of v) (H .⇛ (ex 𝓤 (λ (e : Entry). sep 𝓤 (mean 𝓤 H A (PartAlive κ q y)) (fact 𝓤 (FrontOfSaid e × Is I.the-row e (v ∷ []))))))
-      front-of-is v = some-said 𝓤 H A W I.the-row FrontOfSaid v (mean 𝓤 H A (PartAlive κ q y)) (ensured 𝓤 H A front-of.ended (front-of.clauses 𝓤 H A mem run) (κ, tt) (y, (at, (len, (put, tt)))) tt)
+      pub front-of-is : (v : Val) → ent 𝓤 (FrontOf .post to-front-of v) (H .⇛ (ex 𝓤 (λ (e : Entry). sep 𝓤 (mean 𝓤 H A (Alive 𝓤 κ q)) (fact 𝓤 (FrontOfSaid e × Is I.the-row e (v ∷ []))))))
+      front-of-is v = some-said 𝓤 H A W I.the-row FrontOfSaid v (mean 𝓤 H A (Alive 𝓤 κ q)) (ensured 𝓤 H A front-of.ended (front-of.clauses 𝓤 H A mem run) (κ, tt) (y, (at, (len, (put, tt)))) tt)
           (λ e. exE 𝓤 _ (λ ws. snd∗ 𝓤 (sem 𝓤 H A (lasts front-of.ended (κ, tt) (y, (at, (len, (put, tt)))) ws)) (fact 𝓤 (FrontOfSaid e))))
 
   abbrev pub ContentOf : Contract 𝓤
@@ -192,19 +184,19 @@ module _ {M : Type 1} (𝓤 : URA M) (H : Heap 𝓤) (A : Atoms 𝓤) (mem : Mem
       received = receive ys (y .now) L .1
 
       module _ (W : Given 𝓤 H A) where
-        pub goes-receive : L < 2 ^ 64 → ent 𝓤 (mean 𝓤 H A ((Token 𝓤 ν ⊛ Lent) ⊛ (PartAlive κ q y ⊛ Part κ q y))) (Receive .pre to-receive)
+        pub goes-receive : L < 2 ^ 64 → ent 𝓤 (mean 𝓤 H A ((Token 𝓤 ν ⊛ Lent) ⊛ (Alive 𝓤 κ q ⊛ Part 𝓤 u8 κ y))) (Receive .pre to-receive)
         goes-receive fits =
-            qed W (((Token 𝓤 ν ⊛ Lent) ⊛ (PartAlive κ q y ⊛ Part κ q y)) ∷ []) ∵ split ! $ split ! $ split ! $ move ! (3 ∷ []) $ split ! $
+            qed W (((Token 𝓤 ν ⊛ Lent) ⊛ (Alive 𝓤 κ q ⊛ Part 𝓤 u8 κ y)) ∷ []) ∵ split ! $ split ! $ split ! $ move ! (3 ∷ []) $ split ! $
             -- [the part's token; the part; ν's token; true; the table]
             move ! (3 ∷ []) $ owned ! u64 (Is u64) (uint-makes 𝓤 H A W w64) L _ (refl, fits) $ fjoin ! $ move ! (2 ∷ 0 ∷ []) $ fjoin ! $ move ! (3 ∷ 0 ∷ []) $ fjoin ! $ move ! (2 ∷ 1 ∷ 0 ∷ []) $ join ! $ join ! $ frame ! $ done !
 
         abbrev Given-back : Val → Receipt → SProp 𝓤
-        Given-back v r = sep 𝓤 (mean 𝓤 H A ((Token 𝓤 ν ⊛ ‵ (finally T.the-row γ received)) ⊛ PartAlive κ q y)) (fact 𝓤 (ReceiveSaid r × Is P.the-row r (v ∷ [])))
+        Given-back v r = sep 𝓤 (mean 𝓤 H A ((Token 𝓤 ν ⊛ ‵ (finally T.the-row γ received)) ⊛ Alive 𝓤 κ q)) (fact 𝓤 (ReceiveSaid r × Is P.the-row r (v ∷ [])))
 
         pub receive-is : (v : Val) → ent 𝓤 (Receive .post to-receive v) (H .⇛ (ex 𝓤 (Given-back v)))
         receive-is v =
             qed W (raw (Receive .post to-receive v) ∷ []) ∵ updating ! $
-            use1 W (later (some (λ (r : Receipt). ((‵ (flft (ν ∷ []) fullShare) ⊛ PartAlive κ q y) ⊛ ‵ (P.the-row .own r (v ∷ []))) ⊛ some (λ (zs : List Record × (Unit {0} × (Unit {0} × Unit {0}))). ‵ (lasts receiving.ended (ν ∷ [], (κ, tt)) (x, (y, (L, tt))) zs) ⊛ raw (fact 𝓤 (Receives ys (y .now) L r (zs .0))))))) (id⊢ 𝓤 _) $ await ! tt $ pick ! (λ r.
+            use1 W (later (some (λ (r : Receipt). ((‵ (flft (ν ∷ []) fullShare) ⊛ Alive 𝓤 κ q) ⊛ ‵ (P.the-row .own r (v ∷ []))) ⊛ some (λ (zs : List Record × (Unit {0} × (Unit {0} × Unit {0}))). ‵ (lasts receiving.ended (ν ∷ [], (κ, tt)) (x, (y, (L, tt))) zs) ⊛ raw (fact 𝓤 (Receives ys (y .now) L r (zs .0))))))) (id⊢ 𝓤 _) $ await ! tt $ pick ! (λ r.
             split ! $ move ! (1 ∷ []) $ pick ! (λ zs. split ! $ move ! (1 ∷ []) $ heard ! (Receives ys (y .now) L r (zs .0)) (λ e. fsplit ! $ fsplit ! $ rewrite ! 0 (λ (l : List Record). ‵ (finally T.the-row γ l)) (e .table) refl $
             -- [the last list; its length; true; the tokens and the result]
             move ! (3 ∷ []) $ split ! $ move ! (1 ∷ []) $ peeks ! P.the-row (Is P.the-row) (shows 𝓤 H A P.the-row) r (v ∷ []) (λ is. drop ! $ split ! $ nothing ! $ move ! (1 ∷ 0 ∷ []) $ join ! $ move ! (0 ∷ 2 ∷ []) $ join ! $ join ! $

@@ -36,7 +36,7 @@ use Rattle.capture.proofs.Content as B
 use Rattle.capture.proofs.Content.Laws as B′
 use Rattle.stream.specs.declared.Record.{Record}
 use Rattle.stream.proofs.Record as T
-use Rattle.walks.proofs.Lending.{Token, Mine}
+use Rattle.walks.proofs.Lending.{Part, Alive, Token, Mine}
 use Rattle.lines.specs.declared.Outcome.{Outcome}
 use Rattle.listing.specs.declared.chunk.Progress.{Progress}
 use Rattle.listing.specs.declared.chunk.Cursor.{Cursor}
@@ -49,7 +49,7 @@ use Rattle.listing.proofs.chunk.Progress as G
 use Rattle.listing.proofs.chunk.Progress.Laws as G′
 use Rattle.listing.proofs.chunk.Cursor as D
 use Rattle.listing.proofs.chunk.Cursor.Laws as D′
-use Rattle.listing.proofs.Callees.{machI, machB, machO, Part, PartAlive}
+use Rattle.listing.proofs.Callees.{machI, machB, machO}
 use Rattle.listing.proofs.chunk.obey as obeying
 use Rattle.listing.proofs.chunk.put_next as putting
 
@@ -80,20 +80,20 @@ module _ {M : Type 1} (𝓤 : URA M) (H : Heap 𝓤) (A : Atoms 𝓤) (mem : Mem
     obeyed = step ys (y .now) (heldOf c) .1
 
     module _ (W : Given 𝓤 H A) where
-      pub goes-obey : Is B.the-row c (machB c ∷ []) → ent 𝓤 (mean 𝓤 H A ((Token 𝓤 ν ⊛ Lent) ⊛ (PartAlive 𝓤 H A mem run κ q y ⊛ Part 𝓤 H A mem run κ q y))) (Obey .pre to-obey)
+      pub goes-obey : Is B.the-row c (machB c ∷ []) → ent 𝓤 (mean 𝓤 H A ((Token 𝓤 ν ⊛ Lent) ⊛ (Alive 𝓤 κ q ⊛ Part 𝓤 u8 κ y))) (Obey .pre to-obey)
       goes-obey is =
-          qed W (((Token 𝓤 ν ⊛ Lent) ⊛ (PartAlive 𝓤 H A mem run κ q y ⊛ Part 𝓤 H A mem run κ q y)) ∷ []) ∵ split ! $ split ! $ split ! $ move ! (3 ∷ []) $ split ! $
+          qed W (((Token 𝓤 ν ⊛ Lent) ⊛ (Alive 𝓤 κ q ⊛ Part 𝓤 u8 κ y)) ∷ []) ∵ split ! $ split ! $ split ! $ move ! (3 ∷ []) $ split ! $
           -- [the part's token; the part; ν's token; true; the table]
           move ! (3 ∷ []) $ owned ! B.the-row (Is B.the-row) (EL.makes B.the-type B′.the-plain 𝓤 H A) c _ is $ fjoin ! $ move ! (2 ∷ 0 ∷ []) $ fjoin ! $ move ! (3 ∷ 0 ∷ []) $ fjoin ! $
           move ! (2 ∷ 1 ∷ 0 ∷ []) $ join ! $ join ! $ frame ! $ done !
 
       abbrev Obey-back : Val → Outcome → SProp 𝓤
-      Obey-back v r = sep 𝓤 (mean 𝓤 H A ((Token 𝓤 ν ⊛ ‵ (finally T.the-row γ obeyed)) ⊛ PartAlive 𝓤 H A mem run κ q y)) (fact 𝓤 (ObeySaid r × Is O.the-row r (v ∷ [])))
+      Obey-back v r = sep 𝓤 (mean 𝓤 H A ((Token 𝓤 ν ⊛ ‵ (finally T.the-row γ obeyed)) ⊛ Alive 𝓤 κ q)) (fact 𝓤 (ObeySaid r × Is O.the-row r (v ∷ [])))
 
       pub obey-is : (v : Val) → ent 𝓤 (Obey .post to-obey v) (H .⇛ (ex 𝓤 (Obey-back v)))
       obey-is v =
           qed W (raw (Obey .post to-obey v) ∷ []) ∵ updating ! $
-          use1 W (later (some (λ (r : Outcome). ((‵ (flft (ν ∷ []) fullShare) ⊛ PartAlive 𝓤 H A mem run κ q y) ⊛ ‵ (O.the-row .own r (v ∷ []))) ⊛ some (λ (zs : List Record × (Unit {0} × (Unit {0} × Unit {0}))). ‵ (lasts obeying.ended (ν ∷ [], (κ, tt)) (x, (y, (c, tt))) zs) ⊛ raw (fact 𝓤 (Obeyed ys (y .now) (heldOf c) r (zs .0))))))) (id⊢ 𝓤 _) $ await ! tt $ pick ! (λ r.
+          use1 W (later (some (λ (r : Outcome). ((‵ (flft (ν ∷ []) fullShare) ⊛ Alive 𝓤 κ q) ⊛ ‵ (O.the-row .own r (v ∷ []))) ⊛ some (λ (zs : List Record × (Unit {0} × (Unit {0} × Unit {0}))). ‵ (lasts obeying.ended (ν ∷ [], (κ, tt)) (x, (y, (c, tt))) zs) ⊛ raw (fact 𝓤 (Obeyed ys (y .now) (heldOf c) r (zs .0))))))) (id⊢ 𝓤 _) $ await ! tt $ pick ! (λ r.
           split ! $ move ! (1 ∷ []) $ pick ! (λ zs. split ! $ move ! (1 ∷ []) $ heard ! (Obeyed ys (y .now) (heldOf c) r (zs .0)) (λ h. fsplit ! $ fsplit ! $ rewrite ! 0 (λ (l : List Record). ‵ (finally T.the-row γ l)) (h .table) refl $
           -- [the last list; its length; …; the tokens and the result]
           move ! (3 ∷ []) $ split ! $ move ! (1 ∷ []) $ peeks ! O.the-row (Is O.the-row) (shows 𝓤 H A O.the-row) r (v ∷ []) (λ is. drop ! $ split ! $ nothing ! $ move ! (1 ∷ 0 ∷ []) $ join ! $ move ! (0 ∷ 2 ∷ []) $ join ! $ join ! $

@@ -54,7 +54,8 @@ use Rattle.table.proofs.Machine.{machP}
 use Rattle.table.proofs.Tables.{TableOf, machA, tells-table, table-length, table-room, beside, Answered}
 use Rattle.walks.proofs.LocalArray.{calls-with-array}
 use Rattle.walks.proofs.Locals.{Slots, freed}
-use Rattle.table.proofs.Callees.{Frame, FrameAlive, Receive, to-receive, goes-receive, receive-is}
+use Rattle.walks.proofs.Lending.{Part, Alive}
+use Rattle.table.proofs.Callees.{Receive, to-receive, goes-receive, receive-is}
 use Rattle.table.proofs.receive.Symbol.{name as #table·receive}
 
 -- a `Record` behind a reference
@@ -139,10 +140,10 @@ module _ (n : ℕ) (roomy : Room T.the-row n) (B : Answered n P.the-row machP) (
 
     -- what the frame owns, and its lifetime's token
     abbrev Fr : Item 𝓤
-    Fr = Frame 𝓤 H A mem run κ₁ q₁ y
+    Fr = Part 𝓤 u8 κ₁ y
 
     abbrev FrTok : Item 𝓤
-    FrTok = FrameAlive 𝓤 H A mem run κ₁ q₁ y
+    FrTok = Alive 𝓤 κ₁ q₁
 
     abbrev Post : Val → SProp 𝓤
     Post = walkOf 𝓤 H A answered stayed (clauses 𝓤) .post (((κ₁, tt), (q₁, tt), tt, a, vals), tt)

@@ -48,7 +48,7 @@ use Rattle.stream.proofs.Receipt as P
 use Rattle.stream.proofs.Receipt.Laws as P′
 use Rattle.table.specs.Table.{receiveAlone, ReceivesAlone}
 use Rattle.table.proofs.Machine.{machR, machP}
-use Rattle.table.proofs.Callees.{Frame, FrameAlive}
+use Rattle.walks.proofs.Lending.{Part, Alive}
 use Rattle.walks.proofs.Ending.{some-ended}
 use Rattle.walks.proofs.LocalValue.{calls-with-value}
 use Rattle.walks.proofs.Locals.{Slots, freed}
@@ -104,14 +104,14 @@ module _ {M : Type 1} (𝓤 : URA M) (H : Heap 𝓤) (A : Atoms 𝓤) (mem : Mem
     Tells r = receiptAnswer r (y .now) ≡ receiveAlone h (y .now) L .0
 
     module _ (W : Given 𝓤 H A) where
-      goes-to-callee : L < 2 ^ 64 → ent 𝓤 (mean 𝓤 H A ((‵ (flft κ q) ⊛ (FrameAlive 𝓤 H A mem run κ₁ q₁ y ⊛ Frame 𝓤 H A mem run κ₁ q₁ y)) ⊛ Mut)) (ReceiveRecord .pre to-callee)
+      goes-to-callee : L < 2 ^ 64 → ent 𝓤 (mean 𝓤 H A ((‵ (flft κ q) ⊛ (Alive 𝓤 κ₁ q₁ ⊛ Part 𝓤 u8 κ₁ y)) ⊛ Mut)) (ReceiveRecord .pre to-callee)
       goes-to-callee fits =
-          qed W ((‵ (flft κ q) ⊛ (FrameAlive 𝓤 H A mem run κ₁ q₁ y ⊛ Frame 𝓤 H A mem run κ₁ q₁ y)) ∷ Mut ∷ []) ∵ split ! $ move ! (1 ∷ []) $ split ! $
+          qed W ((‵ (flft κ q) ⊛ (Alive 𝓤 κ₁ q₁ ⊛ Part 𝓤 u8 κ₁ y)) ∷ Mut ∷ []) ∵ split ! $ move ! (1 ∷ []) $ split ! $
           -- [the frame's token; what the frame owns; the record's token; what the record's reference owns]
           nothing ! $ owned ! u64 (Is u64) (uint-makes 𝓤 H A W w64) L _ (refl, fits) $ fjoin ! $ move ! (2 ∷ 0 ∷ []) $ fjoin ! $ move ! (3 ∷ 0 ∷ []) $ fjoin ! $ move ! (2 ∷ 1 ∷ []) $ join ! $ join ! $ frame ! $ done !
 
-      callee-is : (v : Val) → ent 𝓤 (ReceiveRecord .post to-callee v) (H .⇛ (ex 𝓤 (λ (r : Receipt). sep 𝓤 (mean 𝓤 H A ((‵ (flft κ q) ⊛ FrameAlive 𝓤 H A mem run κ₁ q₁ y) ⊛ ‵ (fres γ (T.the-row .coded .code (receiveAlone h (y .now) L .1))))) (fact 𝓤 (Tells r × Is P.the-row r (v ∷ []))))))
-      callee-is v = some-ended 𝓤 H A W P.the-row Record (λ z. fres γ (T.the-row .coded .code z)) (receiveAlone h (y .now) L .1) v (‵ (flft κ q) ⊛ FrameAlive 𝓤 H A mem run κ₁ q₁ y) (Record × (Unit {0} × (Unit {0} × Unit {0}))) (λ w. w .0) (λ w. lasts callee.ended (κ, (κ₁, tt)) given w) (ReceivesAlone h (y .now) L)
+      callee-is : (v : Val) → ent 𝓤 (ReceiveRecord .post to-callee v) (H .⇛ (ex 𝓤 (λ (r : Receipt). sep 𝓤 (mean 𝓤 H A ((‵ (flft κ q) ⊛ Alive 𝓤 κ₁ q₁) ⊛ ‵ (fres γ (T.the-row .coded .code (receiveAlone h (y .now) L .1))))) (fact 𝓤 (Tells r × Is P.the-row r (v ∷ []))))))
+      callee-is v = some-ended 𝓤 H A W P.the-row Record (λ z. fres γ (T.the-row .coded .code z)) (receiveAlone h (y .now) L .1) v (‵ (flft κ q) ⊛ Alive 𝓤 κ₁ q₁) (Record × (Unit {0} × (Unit {0} × Unit {0}))) (λ w. w .0) (λ w. lasts callee.ended (κ, (κ₁, tt)) given w) (ReceivesAlone h (y .now) L)
           (λ w. qed W (‵ (lasts callee.ended (κ, (κ₁, tt)) given w) ∷ []) ∵ fsplit ! $ keep ! (0 ∷ []) $ done !) Tells (λ r z e. (e .lent, e .answer))
 
 -- ---- the walk
@@ -133,10 +133,10 @@ module _ {M : Type 1} (𝓤 : URA M) (H : Heap 𝓤) (A : Atoms 𝓤) (W : Given
 
   -- what the frame owns, and its lifetime's token
   abbrev Fr : Item 𝓤
-  Fr = Frame 𝓤 H A mem run κ₁ q₁ y
+  Fr = Part 𝓤 u8 κ₁ y
 
   abbrev FrTok : Item 𝓤
-  FrTok = FrameAlive 𝓤 H A mem run κ₁ q₁ y
+  FrTok = Alive 𝓤 κ₁ q₁
 
   abbrev Post : Val → SProp 𝓤
   Post = walkOf 𝓤 H A this.ended stayed (this.clauses 𝓤 H A mem run) .post (((κ₁, tt), (q₁, tt), tt, a, vals), tt)

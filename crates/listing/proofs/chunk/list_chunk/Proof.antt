@@ -57,7 +57,7 @@ use Rattle.capture.proofs.Content.Laws as B′
 use Rattle.stream.specs.declared.Record.{Record}
 use Rattle.stream.proofs.Record as T
 use Rattle.walks.proofs.Calls.{calls-some}
-use Rattle.walks.proofs.Lending.{Mine}
+use Rattle.walks.proofs.Lending.{Part, Alive, Mine}
 use Rattle.walks.proofs.Locals.{Slots, freed}
 use Rattle.walks.proofs.Pieces.{rest-of}
 use Rattle.lines.specs.declared.Outcome.{Outcome}
@@ -76,7 +76,7 @@ use Rattle.listing.proofs.chunk.Cursor.Laws as D′
 use Rattle.walks.proofs.Lent.{calls-kept, calls-lent}
 use Rattle.listing.proofs.Obeying.{length-after}
 use Rattle.listing.proofs.Turns.{Run, Under, cursorOf, progressOf, outOf, start, starts, first-cursor, ends, onward, front-fits, same-table, same-cursor, same-out, under}
-use Rattle.listing.proofs.Callees.{machI, machB, machO, Part, PartAlive, FrontOf, FrontOfSaid, to-front-of, goes-front-of, front-of-is, RecordOf, RecordOfSaid, to-record-of, goes-record-of, record-of-is, ContentOf, ContentOfSaid, to-content-of, goes-content-of, content-of-is}
+use Rattle.listing.proofs.Callees.{machI, machB, machO, FrontOf, FrontOfSaid, to-front-of, goes-front-of, front-of-is, RecordOf, RecordOfSaid, to-record-of, goes-record-of, record-of-is, ContentOf, ContentOfSaid, to-content-of, goes-content-of, content-of-is}
 use Rattle.listing.proofs.Turning.{machD, machG, Obey, ObeySaid, obeyed, to-obey, goes-obey, obey-is, PutNext, PutNextSaid, put, to-put-next, goes-put-next, put-next-is}
 use Rattle.listing.proofs.chunk.front_of.Symbol as front-of-def
 use Rattle.listing.proofs.chunk.front_of.Symbol.{name as #front-of}
@@ -145,10 +145,10 @@ module _ {M : Type 1} (𝓤 : URA M) (H : Heap 𝓤) (A : Atoms 𝓤) (W : Given
   Tok = ‵ (flft κ q)
 
   abbrev Ch : Item 𝓤
-  Ch = Part 𝓤 H A mem run κ₁ q₁ y
+  Ch = Part 𝓤 u8 κ₁ y
 
   abbrev ChTok : Item 𝓤
-  ChTok = PartAlive 𝓤 H A mem run κ₁ q₁ y
+  ChTok = Alive 𝓤 κ₁ q₁
 
   abbrev Out : List ℕ → Item 𝓤
   Out es = Mine 𝓤 u8 (named 2) κ₂ γ₂ b₂ o₂ (length ds) es
@@ -283,7 +283,7 @@ module _ {M : Type 1} (𝓤 : URA M) (H : Heap 𝓤) (A : Atoms 𝓤) (W : Given
 
             -- with the record's bytes beside the chunk's token
             abbrev WithRecord : List (Option Val) → List (Item 𝓤)
-            WithRecord vs = Own (r .table) ∷ Tok ∷ (ChTok ⊛ Part 𝓤 H A mem run κ₁ q₁ z) ∷ Ch ∷ Out (outs r) ∷ OutTok ∷ Slots 𝓤 E (locals c (is (machI e) ∷ is sz ∷ vs)) []
+            WithRecord vs = Own (r .table) ∷ Tok ∷ (ChTok ⊛ Part 𝓤 u8 κ₁ z) ∷ Ch ∷ Out (outs r) ∷ OutTok ∷ Slots 𝓤 E (locals c (is (machI e) ∷ is sz ∷ vs)) []
 
             -- `_8` is the content
             module _ (g : Content) (held : ContentOfSaid 𝓤 H A mem run e g) (ok-g : Is B.the-row g (machB g ∷ [])) where
@@ -339,7 +339,7 @@ module _ {M : Type 1} (𝓤 : URA M) (H : Heap 𝓤) (A : Atoms 𝓤) (W : Given
                   assigns ! (addr ! (from ! (fld ! refl (hop ! (look-in ! 36 (sub ! 0 refl (whole !))) (stop !))))) (from ! (stop !)) (init ! 12 refl (tt, tt)) $
                   assigns ! (agg ! (and-then ! (load ! (from ! (stop !)) (look ! 12 refl)) (and-then ! (load ! (from ! (fld ! refl (stop !))) (look-in ! 36 (sub ! 1 refl (whole !)))) (no-more !)))) (from ! (stop !)) (init ! 10 refl (tt, (tt, (record { fits = room .0 }, tt)))) $
                   -- [what the table owns; its token; what goes to the callee beside it; what the chunk owns; what the output owns; its token; …]
-                  calls-lent ! fm (Obey 𝓤 H A mem run) known-obey T.the-row (named 0) κ q γ b o (length ys) (r .table) table-len (subst (Room T.the-row) (sym table-len) room) (λ ν δ. to-obey 𝓤 H A mem run ν b o (length ys) δ (r .table) κ₁ q₁ z g) (ChTok ⊛ Part 𝓤 H A mem run κ₁ q₁ z) ChTok O.the-row (ObeySaid 𝓤 H A mem run 0 b o (length ys) γ (r .table) κ₁ q₁ z g) machO (λ w v. EL.tells O.the-type O′.the-laws w (v ∷ [])) zs zs-len
+                  calls-lent ! fm (Obey 𝓤 H A mem run) known-obey T.the-row (named 0) κ q γ b o (length ys) (r .table) table-len (subst (Room T.the-row) (sym table-len) room) (λ ν δ. to-obey 𝓤 H A mem run ν b o (length ys) δ (r .table) κ₁ q₁ z g) (ChTok ⊛ Part 𝓤 u8 κ₁ z) ChTok O.the-row (ObeySaid 𝓤 H A mem run 0 b o (length ys) γ (r .table) κ₁ q₁ z g) machO (λ w v. EL.tells O.the-type O′.the-laws w (v ∷ [])) zs zs-len
                   (λ ν δ. goes-obey 𝓤 H A mem run ν b o (length ys) δ (r .table) κ₁ q₁ z g W ok-g) (λ ν δ. obey-is 𝓤 H A mem run ν b o (length ys) δ (r .table) κ₁ q₁ z g W)
                   (λ ν δ. (and-then ! (load ! (from ! (stop !)) (look ! 9 refl)) (and-then ! (load ! (from ! (stop !)) (look ! 23 refl)) (and-then ! (load ! (from ! (stop !)) (look ! 21 refl)) (no-more !))))) (λ w line ok-w.
                   -- [what the table owns; its token; the chunk's token; what the chunk owns; what the output owns; its token; …]

@@ -47,7 +47,7 @@ use denote.Exit.{yes}
 use Rattle.stream.specs.declared.Record.{Record}
 use Rattle.stream.proofs.Record as T
 use Rattle.stream.proofs.Record.Laws as T′
-use Rattle.walks.proofs.Lending.{Mine}
+use Rattle.walks.proofs.Lending.{Part, Alive, Mine}
 use Rattle.walks.proofs.Locals.{Slots, freed}
 use Rattle.listing.specs.declared.chunk.Progress.{Progress}
 use Rattle.listing.specs.declared.chunk.Listed.{Listed}
@@ -58,7 +58,6 @@ use Rattle.listing.proofs.chunk.Progress.Laws as G′
 use Rattle.listing.proofs.chunk.Listed as Q
 use Rattle.listing.proofs.chunk.Listed.Laws as Q′
 use Rattle.walks.proofs.Local.{Tokens, calls-with-array}
-use Rattle.listing.proofs.Callees.{Part, PartAlive}
 use Rattle.listing.proofs.Turning.{machG}
 use Rattle.listing.proofs.chunk.list_chunk as listing-chunk
 use Rattle.listing.proofs.chunk.list_chunk.Symbol as list-chunk-def
@@ -122,7 +121,7 @@ module _ {M : Type 1} (𝓤 : URA M) (H : Heap 𝓤) (A : Atoms 𝓤) (mem : Mem
       to-list-chunk = (((ν₁ ∷ [], (κ, (ν₂ ∷ [], tt))), (fullShare, (q, (fullShare, tt))), tt, args, (sliceVal (l, 0) (length ys) ∷ [], (slice-vals y, (sliceVal (b, o) (length ds) ∷ [], (vint w64 n ∷ [], tt))))), tt)
 
       abbrev Sent : Item 𝓤
-      Sent = ((Tokens 𝓤 ν₁ ν₂ ⊛ Mine 𝓤 T.the-row (named 0) (ν₁ ∷ []) δ₁ l 0 (length ys) ys) ⊛ Mine 𝓤 u8 (named 0) (ν₂ ∷ []) δ₂ b o (length ds) ds) ⊛ (PartAlive 𝓤 H A mem run κ q y ⊛ Part 𝓤 H A mem run κ q y)
+      Sent = ((Tokens 𝓤 ν₁ ν₂ ⊛ Mine 𝓤 T.the-row (named 0) (ν₁ ∷ []) δ₁ l 0 (length ys) ys) ⊛ Mine 𝓤 u8 (named 0) (ν₂ ∷ []) δ₂ b o (length ds) ds) ⊛ (Alive 𝓤 κ q ⊛ Part 𝓤 u8 κ y)
 
       module _ (W : Given 𝓤 H A) where
         goes-list-chunk : n < 2 ^ 64 → ent 𝓤 (mean 𝓤 H A Sent) (ListChunk .pre to-list-chunk)
@@ -134,7 +133,7 @@ module _ {M : Type 1} (𝓤 : URA M) (H : Heap 𝓤) (A : Atoms 𝓤) (mem : Mem
             nothing ! $ owned ! u64 (Is u64) (uint-makes 𝓤 H A W w64) n _ (refl, fits) $ fjoin ! $ move ! (4 ∷ 0 ∷ []) $ fjoin ! $ move ! (2 ∷ 0 ∷ []) $ fjoin ! $ move ! (2 ∷ 0 ∷ []) $ fjoin ! $ move ! (1 ∷ 0 ∷ []) $ join ! $ frame ! $ done !
 
         abbrev Back : Val → Progress → SProp 𝓤
-        Back v r = sep 𝓤 (mean 𝓤 H A (((Tokens 𝓤 ν₁ ν₂ ⊛ ‵ (finally T.the-row δ₁ table-after)) ⊛ ‵ (finally u8 δ₂ out-after)) ⊛ PartAlive 𝓤 H A mem run κ q y)) (fact 𝓤 (ListSaid r × Is G.the-row r (v ∷ [])))
+        Back v r = sep 𝓤 (mean 𝓤 H A (((Tokens 𝓤 ν₁ ν₂ ⊛ ‵ (finally T.the-row δ₁ table-after)) ⊛ ‵ (finally u8 δ₂ out-after)) ⊛ Alive 𝓤 κ q)) (fact 𝓤 (ListSaid r × Is G.the-row r (v ∷ [])))
 
         again-said : (r : Progress) (zs : List Record) (es : List ℕ) → ChunkListed (y .now) ys n ds r zs es → ListSaid r
         again-said r zs es h = record { at = h .at; put = h .put; records = h .records; table = refl; out = refl; at-within = h .at-within; put-within = h .put-within }
@@ -188,10 +187,10 @@ module _ {M : Type 1} (𝓤 : URA M) (H : Heap 𝓤) (A : Atoms 𝓤) (W : Given
 
   -- what the chunk and the output own, and the tokens of their lifetimes
   abbrev Ch : Item 𝓤
-  Ch = Part 𝓤 H A mem run κ q y
+  Ch = Part 𝓤 u8 κ y
 
   abbrev ChTok : Item 𝓤
-  ChTok = PartAlive 𝓤 H A mem run κ q y
+  ChTok = Alive 𝓤 κ q
 
   abbrev Out : List ℕ → Item 𝓤
   Out l = Mine 𝓤 u8 (named 1) κ₁ γ b o (length ds) l

@@ -57,7 +57,7 @@ use Rattle.table.proofs.Change as Y
 use Rattle.table.proofs.Change.Laws as Y′
 use Rattle.table.proofs.Machine.{machP, machN, machY}
 use Rattle.walks.proofs.Calls.{calls-some}
-use Rattle.walks.proofs.Lending.{Mine}
+use Rattle.walks.proofs.Lending.{Part, Alive, Mine}
 use Rattle.table.proofs.Callees.{Changer}
 use Rattle.walks.proofs.Locals.{Slots, freed}
 use Rattle.walks.proofs.Pieces.{rest-of, arm-of}
@@ -79,7 +79,7 @@ use Rattle.walks.proofs.Lent.{calls-kept, calls-lent}
 use Rattle.table.proofs.Lengths.{length-admit, length-remove, length-receive}
 use Rattle.listing.specs.Private.{Obeyed}
 use Rattle.listing.proofs.Obeying.{obeys-frame, obeys-admission, obeys-removal}
-use Rattle.listing.proofs.Callees.{machB, machO, Part, PartAlive, FrameIn, FrameInSaid, to-frame-in, goes-frame-in, frame-in-is, Receive, ReceiveSaid, received, to-receive, goes-receive, receive-is, ChangerSaid, to-changer, goes-changer, changer-is, OfReceipt, OfReceiptSaid, to-of-receipt, goes-of-receipt, of-receipt-is, OfChange, OfChangeSaid, to-of-change, goes-of-change, of-change-is}
+use Rattle.listing.proofs.Callees.{machB, machO, FrameIn, FrameInSaid, to-frame-in, goes-frame-in, frame-in-is, Receive, ReceiveSaid, received, to-receive, goes-receive, receive-is, ChangerSaid, to-changer, goes-changer, changer-is, OfReceipt, OfReceiptSaid, to-of-receipt, goes-of-receipt, of-receipt-is, OfChange, OfChangeSaid, to-of-change, goes-of-change, of-change-is}
 use Rattle.listing.proofs.chunk.outcome_of_receipt.Symbol as outcome-of-receipt-def
 use Rattle.listing.proofs.chunk.outcome_of_receipt.Symbol.{name as #outcome-of-receipt}
 use Rattle.listing.proofs.chunk.outcome_of_receipt.Met as outcome-of-receipt-thm
@@ -117,10 +117,10 @@ module _ {M : Type 1} (𝓤 : URA M) (H : Heap 𝓤) (A : Atoms 𝓤) (W : Given
   Tok = ‵ (flft κ q)
 
   abbrev Re : Item 𝓤
-  Re = Part 𝓤 H A mem run κ₁ q₁ y
+  Re = Part 𝓤 u8 κ₁ y
 
   abbrev ReTok : Item 𝓤
-  ReTok = PartAlive 𝓤 H A mem run κ₁ q₁ y
+  ReTok = Alive 𝓤 κ₁ q₁
 
   module _ (c : Content) (ok-c : Is B.the-row c (machB c ∷ [])) where
     abbrev Arg : Type 0
@@ -189,11 +189,11 @@ module _ {M : Type 1} (𝓤 : URA M) (H : Heap 𝓤) (A : Atoms 𝓤) (W : Given
           zs = received 𝓤 H A mem run 0 b o γ ys κ₁ q₁ z L
 
           -- the table is lent with the frame
-          receives : Sq W (Own ys ∷ Tok ∷ (ReTok ⊛ Part 𝓤 H A mem run κ₁ q₁ z) ∷ Re ∷ Slots 𝓤 E (none ∷ is st ∷ is sy ∷ is (machB c) ∷ none ∷ is (vint w64 L) ∷ is sz ∷ []) []) (runs C Λ E (rest-of (rest-of (arm-of 1 mir.s-1))) ThenF)
+          receives : Sq W (Own ys ∷ Tok ∷ (ReTok ⊛ Part 𝓤 u8 κ₁ z) ∷ Re ∷ Slots 𝓤 E (none ∷ is st ∷ is sy ∷ is (machB c) ∷ none ∷ is (vint w64 L) ∷ is sz ∷ []) []) (runs C Λ E (rest-of (rest-of (arm-of 1 mir.s-1))) ThenF)
           receives =
               assigns ! (addr ! (from ! (fld ! refl (hop ! (look-in ! 44 (sub ! 0 refl (whole !))) (stop !))))) (from ! (stop !)) (init ! 14 refl (tt, tt)) $
               assigns ! (agg ! (and-then ! (load ! (from ! (stop !)) (look ! 14 refl)) (and-then ! (load ! (from ! (fld ! refl (stop !))) (look-in ! 44 (sub ! 1 refl (whole !)))) (no-more !)))) (from ! (stop !)) (init ! 12 refl (tt, (tt, (record { fits = room .0 }, tt)))) $
-              calls-lent ! fm (Receive 𝓤 H A mem run) known-receive T.the-row (named 0) κ q γ b o (length ys) ys refl room (λ ν δ. to-receive 𝓤 H A mem run ν b o δ ys κ₁ q₁ z L) (ReTok ⊛ Part 𝓤 H A mem run κ₁ q₁ z) ReTok P.the-row (ReceiveSaid 𝓤 H A mem run 0 b o γ ys κ₁ q₁ z L) machP (λ r v. EL.tells P.the-type P′.the-laws r (v ∷ [])) zs (length-receive ys (z .now) L)
+              calls-lent ! fm (Receive 𝓤 H A mem run) known-receive T.the-row (named 0) κ q γ b o (length ys) ys refl room (λ ν δ. to-receive 𝓤 H A mem run ν b o δ ys κ₁ q₁ z L) (ReTok ⊛ Part 𝓤 u8 κ₁ z) ReTok P.the-row (ReceiveSaid 𝓤 H A mem run 0 b o γ ys κ₁ q₁ z L) machP (λ r v. EL.tells P.the-type P′.the-laws r (v ∷ [])) zs (length-receive ys (z .now) L)
               (λ ν δ. goes-receive 𝓤 H A mem run ν b o δ ys κ₁ q₁ z L W L-fits) (λ ν δ. receive-is 𝓤 H A mem run ν b o δ ys κ₁ q₁ z L W)
               (λ ν δ. (and-then ! (load ! (from ! (stop !)) (look ! 11 refl)) (and-then ! (load ! (from ! (stop !)) (look ! 33 refl)) (and-then ! (load ! (from ! (stop !)) (look ! 35 refl)) (no-more !))))) (λ r said ok-r.
               land ! (from ! (stop !)) (init ! 32 refl (EL.lawful P.the-type P′.the-laws 𝓤 H A W tt .typed r _ ok-r .0)) $
