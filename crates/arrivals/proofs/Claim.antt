@@ -6,9 +6,12 @@ use mathlib.Core.Bool.{true, false, false≢true}
 use mathlib.Core.List.{List, [], _∷_}
 use mathlib.Core.Option.{some}
 use native.Mathlib.Omega.{arith}
-use lib.Dec.{eqb}
+use lib.Dec.{lit≤, eqb}
 use lib.ListN.{length, getElem?, length-set}
 use borrow.Author.Tests.{eqb-true, eq-eqb}
+use Rattle.stream.specs.declared.Counts.{Counts}
+use Rattle.stream.specs.Records.{admitted}
+use Rattle.stream.proofs.Laws.{admitted-counts}
 use Rattle.stream.specs.declared.Record.{Record}
 use Rattle.stream.specs.Answers.{after, idOf}
 use Rattle.table.specs.Table.{Table, holds, place, at, only, numberWith, receive, receiveAlone}
@@ -82,7 +85,7 @@ module _ (t : Table) where
       h (idOf (a .frame), of-stream t a (idOf (a .frame)) (accepted-number t a i p) refl, of-stream t b (idOf (a .frame)) (accepted-number t b i q) e)
 
   stream-counts : (l : List Arrival) (k i : ℕ) (r e : Record) → StreamRecord t k i r → WithinCap (r .counts) → getElem? ((directed (verdict t) t l) .1) i ≡ some e
-      → Counted r e (answersTo (ofStream t k) l ((directed (verdict t) t l) .0))
+      → Counted (r .counts) e (answersTo (ofStream t k) l ((directed (verdict t) t l) .0))
   stream-counts l k i r e x h p =
       let q = stream-replay t k i r x l in
       let w = q .1 in
@@ -102,6 +105,9 @@ module _ (t : Table) where
         exchange = λ before a b rest h i.
             (exchange-answers (verdict t) a b rest (apart a b h) t before i, exchange-table (verdict t) a b rest (apart a b h) t before i);
         counts = stream-counts;
+        since-admission = λ l k i e x p.
+            subst (λ (c : Counts). Counted c e (answersTo (ofStream t k) l ((directed (verdict t) t l) .0))) (admitted-counts k)
+            (stream-counts l k i (admitted k) e x (rw (admitted-counts k) (lit≤ tt, lit≤ tt, lit≤ tt, lit≤ tt, lit≤ tt)) p);
       }
 
   pub over-a-table : Claim t (run t)

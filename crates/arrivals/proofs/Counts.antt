@@ -50,7 +50,7 @@ unfolding howMany
 howMany-all [] = refl
 howMany-all (x ∷ xs) = ap suc (howMany-all xs)
 
-pub replay-counted : (r : Record) (l : List Arrival) → WithinCap (r .counts) → Counted r ((replay r l) .1) ((replay r l) .0)
+pub replay-counted : (r : Record) (l : List Arrival) → WithinCap (r .counts) → Counted (r .counts) ((replay r l) .1) ((replay r l) .0)
 replay-counted r l h =
     record {
       frames =

@@ -14,10 +14,10 @@ use Rattle.refusal.proofs.First.{clear, orElse}
 use Rattle.writer.specs.declared.Sender.{Sender}
 use Rattle.writer.specs.Frames.{frameBytes}
 use Rattle.writer.specs.Writing.{writeRefusal, advanced, writing}
-use Rattle.round_trip.specs.ReadBack.{SenderTyped, GivenTyped, fieldsWritten}
+use Rattle.round_trip.specs.ReadBack.{SenderTyped, GivenTyped, fieldsWritten, frameLeft}
 use Rattle.round_trip.specs.WriteBack.{senderOf}
 use Rattle.round_trip.specs.Successive.{Call, successive, CallsTyped, Delivered, senderAfter, Gapless}
-use Rattle.round_trip.proofs.ReadBack.{fields-back}
+use Rattle.round_trip.proofs.ReadBack.{left-bytes, fields-back}
 use Rattle.round_trip.proofs.Gapless.{advanced-typed, gapless}
 use Rattle.stream.specs.declared.Record.{Record}
 use Rattle.stream.specs.Records.{admitted}
@@ -39,15 +39,15 @@ OfId k (f ∷ fs) = (idOf f ≡ k) × OfId k fs
 -- a call that is answered n, where the frames of the calls after it carry the id
 module _ (k : ℕ) (s : Sender) (c : Call) (cs : List Call) (sender : SenderTyped s) (given : GivenTyped (c .given)) (one : c .given .stream .id ≡ k)
     (later : (t : Sender) → SenderTyped t → (fs : List (List ℕ)) → Delivered (successive t cs) fs → OfId k fs) where
-  one-id : (n : ℕ) → writeRefusal (c .given) (length (c .payload)) (c .room) ≡ n → (fs : List (List ℕ))
-      → Delivered (ifAccepted n (frameBytes s (c .given) (c .payload) ∷ []) [] ++ successive (ifAccepted n (advanced s (c .given) (c .payload)) s) cs) fs
+  one-id : (n : ℕ) → writeRefusal (c .given) (length (c .payload)) (length (c .out)) ≡ n → (fs : List (List ℕ))
+      → Delivered (ifAccepted n (frameLeft s (c .given) (c .payload) (c .out) ∷ []) [] ++ successive (ifAccepted n (advanced s (c .given) (c .payload)) s) cs) fs
       → OfId k fs
   unfolding idOf fieldsWritten
   one-id zero e [] h = absurd h
   one-id zero e (f ∷ fs) h =
       let g = c .given in
       let p = c .payload in (
-        ap idOf (h .0 .1) ∙ ap (λ (x : Fields). x .header .stream .id) (fields-back s g p (h .0 .0) (c .room) sender given e) ∙ one,
+        ap idOf (h .0 .1 ∙ ap (λ (x : List ℕ). x ++ h .0 .0) (left-bytes s g p (c .out) e)) ∙ ap (λ (x : Fields). x .header .stream .id) (fields-back s g p (h .0 .0) (length (c .out)) sender given e) ∙ one,
         later (advanced s g p) (advanced-typed s g p) fs (h .1),
       )
   one-id (suc n) e fs h = later s sender fs h
@@ -57,7 +57,7 @@ unfolding successive writing
 sent-ids k s [] sender given one [] h = tt
 sent-ids k s [] sender given one (f ∷ fs) h = absurd h
 sent-ids k s (c ∷ cs) sender given one fs h =
-    one-id k s c cs sender (given .0) (one .0) (λ t typed rest. sent-ids k t cs typed (given .1) (one .1) rest) (writeRefusal (c .given) (length (c .payload)) (c .room)) refl fs h
+    one-id k s c cs sender (given .0) (one .0) (λ t typed rest. sent-ids k t cs typed (given .1) (one .1) rest) (writeRefusal (c .given) (length (c .payload)) (length (c .out))) refl fs h
 
 -- from any one of them on
 ids-drop : (k n : ℕ) (fs : List (List ℕ)) → OfId k fs → OfId k (drop n fs)

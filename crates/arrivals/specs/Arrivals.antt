@@ -8,6 +8,7 @@ use lib.Dec.{eqb}
 use lib.ListN.{length, getElem?}
 use Rattle.stream.specs.declared.Record.{Record}
 use Rattle.stream.specs.declared.Counts.{Counts}
+use Rattle.stream.specs.Records.{admitted}
 use Rattle.stream.specs.Answers.{Answer, refusedWith, answerOf, after, idOf}
 use Rattle.table.specs.Table.{Table, numberWith, receive, receiveAlone}
 
@@ -82,8 +83,8 @@ swap zero (x ∷ []) = x ∷ []
 swap zero (x ∷ y ∷ l) = y ∷ x ∷ l
 swap (suc n) (x ∷ l) = x ∷ swap n l
 
--- ---- Counts: how many answers pass a test; the five counts of a record e are those of the record r before it and of the answers xs, up
--- to 4,294,967,295
+-- ---- Counts: how many answers pass a test; the five counts of a record e are the counts c before it and those of the answers xs, up to
+-- 4,294,967,295
 
 unfoldable pub howMany : (Answer → Bool) → List Answer → ℕ
 howMany f [] = 0
@@ -99,12 +100,12 @@ capped n = min cap n
 abbrev pub WithinCap : Counts → Type 0
 WithinCap c = (c .frames ≤ cap) × (c .«sequence_breaks» ≤ cap) × (c .«block_breaks» ≤ cap) × (c .«format_changes» ≤ cap) × (c .«mr_changes» ≤ cap)
 
-pub record Counted (r e : Record) (xs : List Answer) : Type 0 where
-  pub frames : e .counts .frames ≡ capped (r .counts .frames + length xs)
-  pub sequence-breaks : e .counts .«sequence_breaks» ≡ capped (r .counts .«sequence_breaks» + howMany (λ x. x .flags .sequence) xs)
-  pub block-breaks : e .counts .«block_breaks» ≡ capped (r .counts .«block_breaks» + howMany (λ x. x .flags .block) xs)
-  pub format-changes : e .counts .«format_changes» ≡ capped (r .counts .«format_changes» + howMany (λ x. x .flags .format) xs)
-  pub mr-changes : e .counts .«mr_changes» ≡ capped (r .counts .«mr_changes» + howMany (λ x. x .flags .mr) xs)
+pub record Counted (c : Counts) (e : Record) (xs : List Answer) : Type 0 where
+  pub frames : e .counts .frames ≡ capped (c .frames + length xs)
+  pub sequence-breaks : e .counts .«sequence_breaks» ≡ capped (c .«sequence_breaks» + howMany (λ x. x .flags .sequence) xs)
+  pub block-breaks : e .counts .«block_breaks» ≡ capped (c .«block_breaks» + howMany (λ x. x .flags .block) xs)
+  pub format-changes : e .counts .«format_changes» ≡ capped (c .«format_changes» + howMany (λ x. x .flags .format) xs)
+  pub mr-changes : e .counts .«mr_changes» ≡ capped (c .«mr_changes» + howMany (λ x. x .flags .mr) xs)
 
 -- ---- The claim, of a start table t and of the answers and the table that `go` gives for a list of arrivals
 
@@ -127,9 +128,13 @@ pub record Claim (t : Table) (go : List Arrival → List Answer × Table) : Type
   -- two neighbours that are not both accepted and of one stream change places: each keeps its answer, and every record ends the same
   pub exchange : (before : List Arrival) (a b : Arrival) (rest : List Arrival) → ¬ OneStream t a b
       → go (before ++ b ∷ a ∷ rest) ≡ (swap (length before) ((go (before ++ a ∷ b ∷ rest)) .0), (go (before ++ a ∷ b ∷ rest)) .1)
-  -- each count goes up by the number of the stream's accepted frames, or of those with that flag; a newly admitted record has counted nothing
+  -- each count goes up by the number of the stream's accepted frames, or of those with that flag
   pub counts : (l : List Arrival) (k i : ℕ) (r e : Record) → StreamRecord t k i r → WithinCap (r .counts) → getElem? ((go l) .1) i ≡ some e
-      → Counted r e (answersTo (ofStream t k) l ((go l) .0))
+      → Counted (r .counts) e (answersTo (ofStream t k) l ((go l) .0))
+  -- and so since admission it is that number
+  pub since-admission : (l : List Arrival) (k i : ℕ) (e : Record) → StreamRecord t k i (admitted k) → getElem? ((go l) .1) i ≡ some e
+      → Counted (record { frames = 0; «sequence_breaks» = 0; «block_breaks» = 0; «format_changes» = 0; «mr_changes» = 0 }) e
+      (answersTo (ofStream t k) l ((go l) .0))
 
 -- demand 3: for every start table, and for every record lent alone as a table of one; and the claim leaves nothing open
 pub record ListsOfArrivals : Type 0 where

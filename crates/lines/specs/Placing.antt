@@ -1,4 +1,4 @@
--- A line in a buffer that a caller lends.
+-- A line, or the lines at the end of a listing, in a buffer that a caller lends.
 use Prim.Native.Nat.{ℕ, _+_}
 use mathlib.Core.Bool.{Bool, true, false, cond}
 use mathlib.Core.List.{List}
@@ -8,7 +8,7 @@ use lib.Seq.{sets}
 use Rattle.lines.specs.declared.Placed.{Placed}
 use Rattle.lines.specs.declared.Placed.the-variants.{UpTo, NoRoom}
 
--- the room that a line is given; no line has more bytes
+-- the room that a line is given; no line has more bytes, nor have the two lines at the end of a cut capture
 abbrev pub lineRoom : ℕ
 lineRoom = 128
 

@@ -27,8 +27,8 @@ pub enum Placed {
     NoRoom,
 }
 
-// The room that a line is given. No line has more than 110 bytes.
-pub const LINE_ROOM: usize = 128;
+// The room that a line is given. No line has more than 110 bytes, nor have the two lines at the end of a cut capture more than this.
+const LINE_ROOM: usize = 128;
 
 // Does a buffer of `len` bytes have room for a line at place `at`?
 pub fn roomy(len: usize, at: usize) -> bool

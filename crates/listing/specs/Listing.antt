@@ -1,8 +1,9 @@
 -- The whole listing of a capture (document 01, Capture and listing).
-use Prim.Native.Nat.{ℕ}
+use Prim.Native.Nat.{ℕ, _<_, _^_}
+use mathlib.Core.Path.{_≡_}
 use mathlib.Core.List.{List, [], _∷_, _++_}
 use mathlib.Core.Option.{Option, none, some}
-use lib.ListN.{replicate}
+use lib.ListN.{length, replicate}
 use Rattle.refusal.specs.Refusals.{ifAccepted}
 use Rattle.capture.specs.Records.{Held, damaged, arrival, admission, removal, frameIn}
 use Rattle.capture.specs.Walk.{walk}
@@ -53,6 +54,10 @@ linesAfter n (x ∷ xs) = lineText (nextNumber n) (x .line) ++ linesAfter (nextN
 unfoldable pub numberAfter : ℕ → List Said → ℕ
 numberAfter n [] = n
 numberAfter n (x ∷ xs) = numberAfter (nextNumber n) xs
+
+-- the number of the last is how many there are, while 64 bits hold it
+abbrev pub Numbered : Type 0
+Numbered = (said : List Said) → length said < 2 ^ 64 → numberAfter 0 said ≡ length said
 
 unfoldable pub listing : List ℕ → List ℕ
 listing capture = let said = visit capture .0 in startLine ++ (linesAfter 0 said ++ endLine (numberAfter 0 said))

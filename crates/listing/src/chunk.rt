@@ -221,7 +221,8 @@ pub struct Listed {
     pub progress: Progress,
 }
 
-// The same with a table by value, for callers that hold no reference to one.
+// The whole records at the front of the chunk, as far as the output has room for their lines, with a table of 64 records by value.
+// `records` were listed before.
 pub fn list_chunk_in(table: [Record; 64], chunk: &[u8], out: &mut [u8], records: u64) -> Listed
     ensures { λ r. ⌜ ChunkListed (now (chunk .entry)) table records (now (out .entry)) (r .progress) (r .table) (now (out .exit)) ⌝ }
 {

@@ -1,12 +1,18 @@
 // The listing of a capture, a chunk at a time.
 pub mod chunk;
 
+ghost use Rattle.listing.specs.Listing.{Numbered};
 ghost use Rattle.listing.specs.InChunks.{ListedInChunks};
 ghost use Rattle.listing.specs.Example.{WorkedExample};
 
 // The rules list document 01's capture as it does.
 fn worked_example()
     ensures { λ _. ⌜ WorkedExample ⌝ }
+{}
+
+// Records are numbered from 1, and the last line has how many there are.
+fn numbered()
+    ensures { λ _. ⌜ Numbered ⌝ }
 {}
 
 // Listing a capture in any chunks is listing it whole.

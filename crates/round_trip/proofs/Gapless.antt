@@ -1,6 +1,6 @@
 -- A sender's successive frames follow each other without a gap. Assumes nothing.
 use Prim.Native.Nat.{ℕ, zero, suc, _+_, _≤_}
-use mathlib.Core.Path.{_≡_, refl, ap}
+use mathlib.Core.Path.{_≡_, refl, ap, _∙_}
 use mathlib.Core.List.{List, [], _∷_, _++_}
 use native.Mathlib.Nat.{mod-lt}
 use native.Mathlib.Omega.{arith}
@@ -12,10 +12,10 @@ use Rattle.writer.specs.declared.Sender.{Sender}
 use Rattle.writer.specs.declared.given.Given.{Given}
 use Rattle.writer.specs.Frames.{frameBytes}
 use Rattle.writer.specs.Writing.{writeRefusal, advanced, writing}
-use Rattle.round_trip.specs.ReadBack.{SenderTyped, GivenTyped, fieldsWritten}
+use Rattle.round_trip.specs.ReadBack.{SenderTyped, GivenTyped, fieldsWritten, frameLeft}
 use Rattle.round_trip.specs.WriteBack.{senderOf}
 use Rattle.round_trip.specs.Successive.{Call, successive, CallsTyped, Delivered, Gapless, senderAfter}
-use Rattle.round_trip.proofs.ReadBack.{fields-back, refusal-back, payload-back}
+use Rattle.round_trip.proofs.ReadBack.{left-bytes, fields-back, refusal-back, payload-back}
 
 pub advanced-typed : (s : Sender) (g : Given) (payload : List ℕ) → SenderTyped (advanced s g payload)
 unfolding advanced
@@ -35,21 +35,21 @@ module _ (s : Sender) (g : Given) (payload padding : List ℕ) (room : ℕ) (sen
 -- a call that is answered n, where the calls after it are gapless from any sender on
 module _ (s : Sender) (c : Call) (cs : List Call) (sender : SenderTyped s) (given : GivenTyped (c .given))
     (later : (t : Sender) → SenderTyped t → (frames : List (List ℕ)) → Delivered (successive t cs) frames → Gapless t frames) where
-  serve : (n : ℕ) → writeRefusal (c .given) (length (c .payload)) (c .room) ≡ n → (frames : List (List ℕ))
-      → Delivered (ifAccepted n (frameBytes s (c .given) (c .payload) ∷ []) [] ++ successive (ifAccepted n (advanced s (c .given) (c .payload)) s) cs) frames
+  serve : (n : ℕ) → writeRefusal (c .given) (length (c .payload)) (length (c .out)) ≡ n → (frames : List (List ℕ))
+      → Delivered (ifAccepted n (frameLeft s (c .given) (c .payload) (c .out) ∷ []) [] ++ successive (ifAccepted n (advanced s (c .given) (c .payload)) s) cs) frames
       → Gapless s frames
   serve zero e [] h = absurd h
   serve zero e (frame ∷ frames) h =
       let g = c .given in
       let p = c .payload in
       let padding = h .0 .0 in
-      let arrived = h .0 .1 in
+      let arrived : frame ≡ frameBytes s g p ++ padding = h .0 .1 ∙ ap (λ (f : List ℕ). f ++ padding) (left-bytes s g p (c .out) e) in
       let short : length (frameBytes s g p ++ padding) ≤ 1518 = rw (← arrived) (h .0 .2) in
       let t = advanced s g p in
       rw arrived (
-        refusal-back s g p padding (c .room) sender given e short,
-        numbers s g p padding (c .room) sender given e short,
-        rw (← moved s g p padding (c .room) sender given e short) (later t (advanced-typed s g p) frames (h .1)),
+        refusal-back s g p padding (length (c .out)) sender given e short,
+        numbers s g p padding (length (c .out)) sender given e short,
+        rw (← moved s g p padding (length (c .out)) sender given e short) (later t (advanced-typed s g p) frames (h .1)),
       )
   serve (suc n) e frames h = later s sender frames h
 
@@ -58,4 +58,4 @@ unfolding successive writing
 gapless s [] [] sender given h = tt
 gapless s [] (frame ∷ frames) sender given h = absurd h
 gapless s (c ∷ cs) frames sender given h =
-    serve s c cs sender (given .0) (λ t typed rest. gapless t cs rest typed (given .1)) (writeRefusal (c .given) (length (c .payload)) (c .room)) refl frames h
+    serve s c cs sender (given .0) (λ t typed rest. gapless t cs rest typed (given .1)) (writeRefusal (c .given) (length (c .payload)) (length (c .out))) refl frames h

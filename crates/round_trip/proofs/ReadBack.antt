@@ -34,7 +34,7 @@ pub output-of : (s : Sender) (g : Given) (p out : List ℕ) → writeRefusal g (
 unfolding output
 output-of s g p out e = rw e refl
 
-left-bytes : (s : Sender) (g : Given) (p out : List ℕ) → writeRefusal g (length p) (length out) ≡ 0 → frameLeft s g p out ≡ frameBytes s g p
+pub left-bytes : (s : Sender) (g : Given) (p out : List ℕ) → writeRefusal g (length p) (length out) ≡ 0 → frameLeft s g p out ≡ frameBytes s g p
 unfolding frameLeft
 left-bytes s g p out e = rw (output-of s g p out e) (take-at (frameBytes s g p) (drop (50 + length p) out) (50 + length p) (size s g p))
 

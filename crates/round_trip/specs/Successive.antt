@@ -9,23 +9,22 @@ use Rattle.frame.specs.Checks.{refusal}
 use Rattle.frame.specs.Reading.{payloadOf, blocksOf}
 use Rattle.writer.specs.declared.Sender.{Sender}
 use Rattle.writer.specs.declared.given.Given.{Given}
-use Rattle.writer.specs.Frames.{frameBytes}
 use Rattle.writer.specs.Writing.{writing}
-use Rattle.round_trip.specs.ReadBack.{SenderTyped, GivenTyped}
+use Rattle.round_trip.specs.ReadBack.{SenderTyped, GivenTyped, frameLeft}
 use Rattle.round_trip.specs.WriteBack.{senderOf}
 
--- a write that is asked of a sender, into an output of room bytes
+-- a write that is asked of a sender, into an output
 pub record Call : Type 0 where
   pub given : Given
   pub payload : List ℕ
-  pub room : ℕ
+  pub out : List ℕ
 
--- the frames of successive writes: each uses the sender that the one before left, and a refused one sends no frame
+-- the frames that successive writes leave: each uses the sender that the one before left, and a refused one sends no frame
 unfoldable pub successive : Sender → List Call → List (List ℕ)
 successive s [] = []
 successive s (c ∷ cs) =
-    let a = writing s (c .given) (c .payload) (c .room) in
-    ifAccepted (a .number) (frameBytes s (c .given) (c .payload) ∷ []) [] ++ successive (a .sender) cs
+    let a = writing s (c .given) (c .payload) (length (c .out)) in
+    ifAccepted (a .number) (frameLeft s (c .given) (c .payload) (c .out) ∷ []) [] ++ successive (a .sender) cs
 
 abbrev pub CallsTyped : List Call → Type 0
 CallsTyped [] = Unit {0}

@@ -48,7 +48,7 @@ fn show(arrival_time: u64, stamp: u32) {
     say(b"\n");
 }
 
-// The fields of a sound frame with SPH 0 or 1, tv 0 or 1, and AVTP timestamp 1,500.
+// The header of a sound frame with tv 0 or 1 and AVTP timestamp 1,500.
 fn header(tv: bool) -> Header {
     Header {
         ethernet: Ethernet {

@@ -36,7 +36,7 @@ fn fits(given: Given) -> bool
     ethernet_fits(given.ethernet) & stream_fits(given.stream) & cip_fits(given.cip)
 }
 
-// May `n` bytes of payload be written into `room` bytes?
+// May a frame with these fields and `n` bytes of payload be written into `room` bytes?
 pub(crate) fn check(given: Given, n: usize, room: usize) -> Verdict
     ensures { λ r. ⌜ verdictNumber r ≡ writeRefusal given n room ⌝ }
 {

@@ -1,4 +1,4 @@
-// The fields of a frame put together, row by row, by shifts and masks.
+// The fields of a frame put together, row by row, by shifts and ors.
 use crate::given::AvtpFields;
 use crate::given::CipFields;
 use crate::given::EthernetFields;

@@ -93,7 +93,7 @@ fn edge(name: &[u8], given: Given) {
 }
 
 // Each field of `lowest` at its largest value.
-fn address_edges() {
+fn ethernet_edges() {
     let mut destination = lowest();
     destination.ethernet.destination = 0xffff_ffff_ffff;
     edge(b"destination largest", destination);
@@ -109,7 +109,7 @@ fn address_edges() {
 }
 
 // The same of the four flags.
-fn mark_edges() {
+fn avtp_edges() {
     let mut mr = lowest();
     mr.avtp.mr = true;
     edge(b"mr", mr);
@@ -125,7 +125,7 @@ fn mark_edges() {
 }
 
 // The same of the stream and the packet header.
-fn origin_edges() {
+fn stream_edges() {
     let mut id = lowest();
     id.stream.id = 0xffff_ffff_ffff_ffff;
     edge(b"stream id largest", id);
@@ -144,7 +144,7 @@ fn origin_edges() {
 }
 
 // The same of the CIP header; DBS is with the payloads.
-fn format_edges() {
+fn cip_edges() {
     let mut sid = lowest();
     sid.cip.sid = 63;
     edge(b"sid 63", sid);
@@ -215,7 +215,7 @@ fn wide_fields() {
 }
 
 // 32 too.
-fn wide_formats() {
+fn wide_cip_fields() {
     let mut sid = lowest();
     sid.cip.sid = 64;
     edge(b"sid 64", sid);
@@ -276,14 +276,14 @@ fn one_sender() {
 fn main() {
     edge(b"lowest", lowest());
     show(b"largest", start(), largest(), 1020, 1600);
-    address_edges();
-    mark_edges();
-    origin_edges();
-    format_edges();
+    ethernet_edges();
+    avtp_edges();
+    stream_edges();
+    cip_edges();
     payload_edges();
     wrong_addresses();
     wide_fields();
-    wide_formats();
+    wide_cip_fields();
     lengths();
     two_apply();
     one_sender();
