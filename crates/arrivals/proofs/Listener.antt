@@ -37,7 +37,7 @@ OfId k [] = Unit {0}
 OfId k (f ∷ fs) = (idOf f ≡ k) × OfId k fs
 
 -- a call that is answered n, where the frames of the calls after it carry the id
-module _ (k : ℕ) (s : Sender) (c : Call) (cs : List Call) (sender : SenderTyped s) (given : GivenTyped (c .given)) (one : c .given .stream .id ≡ k)
+module _ (k : ℕ) (s : Sender) (c : Call) (cs : List Call) (sender : SenderTyped s) (given : GivenTyped (c .given)) (one : writeRefusal (c .given) (length (c .payload)) (length (c .out)) ≡ 0 → c .given .stream .id ≡ k)
     (later : (t : Sender) → SenderTyped t → (fs : List (List ℕ)) → Delivered (successive t cs) fs → OfId k fs) where
   one-id : (n : ℕ) → writeRefusal (c .given) (length (c .payload)) (length (c .out)) ≡ n → (fs : List (List ℕ))
       → Delivered (ifAccepted n (frameLeft s (c .given) (c .payload) (c .out) ∷ []) [] ++ successive (ifAccepted n (advanced s (c .given) (c .payload)) s) cs) fs
@@ -47,7 +47,7 @@ module _ (k : ℕ) (s : Sender) (c : Call) (cs : List Call) (sender : SenderType
   one-id zero e (f ∷ fs) h =
       let g = c .given in
       let p = c .payload in (
-        ap idOf (h .0 .1 ∙ ap (λ (x : List ℕ). x ++ h .0 .0) (left-bytes s g p (c .out) e)) ∙ ap (λ (x : Fields). x .header .stream .id) (fields-back s g p (h .0 .0) (length (c .out)) sender given e) ∙ one,
+        ap idOf (h .0 .1 ∙ ap (λ (x : List ℕ). x ++ h .0 .0) (left-bytes s g p (c .out) e)) ∙ ap (λ (x : Fields). x .header .stream .id) (fields-back s g p (h .0 .0) (length (c .out)) sender given e) ∙ one e,
         later (advanced s g p) (advanced-typed s g p) fs (h .1),
       )
   one-id (suc n) e fs h = later s sender fs h

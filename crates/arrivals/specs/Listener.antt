@@ -3,18 +3,19 @@ use Prim.Native.Nat.{ℕ}
 use mathlib.Core.Path.{_≡_}
 use mathlib.Core.Bool.{false}
 use mathlib.Core.List.{List, [], _∷_, map}
-use lib.ListN.{drop}
+use lib.ListN.{length, drop}
 use Rattle.writer.specs.declared.Sender.{Sender}
+use Rattle.writer.specs.Writing.{writeRefusal}
 use Rattle.round_trip.specs.ReadBack.{SenderTyped}
 use Rattle.round_trip.specs.Successive.{Call, successive, CallsTyped, Delivered}
 use Rattle.stream.specs.Answers.{Answer}
 use Rattle.table.specs.Table.{Table, admit}
 use Rattle.arrivals.specs.Arrivals.{Arrival, run}
 
--- every write is asked for with the one id
+-- every write that is not refused is asked for with the one id
 abbrev pub OneId : ℕ → List Call → Type 0
 OneId k [] = Unit {0}
-OneId k (c ∷ cs) = (c .given .stream .id ≡ k) × OneId k cs
+OneId k (c ∷ cs) = (writeRefusal (c .given) (length (c .payload)) (length (c .out)) ≡ 0 → c .given .stream .id ≡ k) × OneId k cs
 
 -- each frame is accepted, and raises no sequence and no block flag
 abbrev pub Unbroken : List Answer → Type 0

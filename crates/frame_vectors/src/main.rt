@@ -5,7 +5,6 @@ use frame::Reading;
 use frame::layout::Avtp;
 use frame::layout::Cip;
 use frame::layout::Ethernet;
-use frame::layout::Fields;
 use frame::layout::Stream;
 use libc::STDOUT_FILENO;
 ghost use Prim.Native.Nat.{_≤_, _<_};

@@ -41,7 +41,7 @@ end-past chunk at h = rw (drop-of-length-le chunk {i = at} h)
 pub change-refused : (r : Refusal) (line : Line) → refused (numberOf r) ≡ changeLine (numberOf r) line
 change-refused r line = rw (positive r .1)
 
-pub receipt-refused : (r : Refusal) → refused (numberOf r) ≡ frameLine (receiptAnswer (Refused r) [] .number) (receiptAnswer (Refused r) [])
+pub receipt-refused : (r : Refusal) → refused (numberOf r) ≡ frameLine (receiptAnswer (Refused r) [])
 unfolding refusedWith
 receipt-refused r = rw (positive r .1)
 

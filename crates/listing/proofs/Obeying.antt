@@ -23,22 +23,19 @@ length-after t bytes (admission id) = length-admit t id
 length-after t bytes (removal id) = length-remove t id
 
 -- ---- the line, and the table afterwards
-abbrev answerLine : Answer → Line
-answerLine a = frameLine (a .number) a
-
 -- a line says nothing of the payload
-any-payload : (r : Receipt) (payload : List ℕ) → answerLine (receiptAnswer r []) ≡ answerLine (receiptAnswer r payload)
+any-payload : (r : Receipt) (payload : List ℕ) → frameLine (receiptAnswer r []) ≡ frameLine (receiptAnswer r payload)
 any-payload (receipt.Accepted j) payload = refl
 any-payload (receipt.Refused r) payload = refl
 
 abbrev pub ReceiptLine : Receipt → Outcome → Type 0
-ReceiptLine r o = lineOf o ≡ frameLine (receiptAnswer r [] .number) (receiptAnswer r [])
+ReceiptLine r o = lineOf o ≡ frameLine (receiptAnswer r [])
 
 module _ (bytes : List ℕ) (t : Table) (o : Outcome) where
   pub obeys-frame : (L : ℕ) (frame : List ℕ) (r : Receipt) → frame ≡ frameIn bytes → receiptAnswer r frame ≡ receive t frame L .0 → ReceiptLine r o → Obeyed t bytes (arrival L) o (receive t frame L .1)
   obeys-frame L frame r is said line =
       record {
-        line = line ∙ any-payload r frame ∙ ap answerLine said ∙ ap (λ (f : List ℕ). answerLine (receive t f L .0)) is;
+        line = line ∙ any-payload r frame ∙ ap frameLine said ∙ ap (λ (f : List ℕ). frameLine (receive t f L .0)) is;
         table = ap (λ (f : List ℕ). receive t f L .1) is;
       }
 

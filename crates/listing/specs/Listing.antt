@@ -23,12 +23,12 @@ pub record Said : Type 0 where
 abbrev pub changeLine : ℕ → Line → Line
 changeLine number line = ifAccepted number line (refused number)
 
--- a received frame by the number answered
-abbrev pub frameLine : ℕ → Answer → Line
-frameLine number a = ifAccepted number (frame (a .flags) (a .timing)) (refused number)
+-- a received frame by its answer
+abbrev pub frameLine : Answer → Line
+frameLine a = ifAccepted (a .number) (frame (a .flags) (a .timing)) (refused (a .number))
 
-abbrev pub frameStream : ℕ → Answer → Option ℕ
-frameStream number a = ifAccepted number (some (a .fields .header .stream .id)) none
+abbrev pub frameStream : Answer → Option ℕ
+frameStream a = ifAccepted (a .number) (some (a .fields .header .stream .id)) none
 
 -- what is said of a record with these bytes, by what it holds, and the table afterwards
 abbrev pub step : Table → List ℕ → Held → Said × Table
@@ -36,7 +36,7 @@ step t bytes (damaged number) = (record { stream = none; line = refused number }
 step t bytes (arrival L) =
     let received = receive t (frameIn bytes) L in
     let a = received .0 in
-    (record { stream = frameStream (a .number) a; line = frameLine (a .number) a }, received .1)
+    (record { stream = frameStream a; line = frameLine a }, received .1)
 step t bytes (admission id) = (record { stream = some id; line = changeLine (admit t id .0) admitted }, admit t id .1)
 step t bytes (removal id) = (record { stream = some id; line = changeLine (remove t id .0) removed }, remove t id .1)
 

@@ -90,7 +90,7 @@ pub(crate) fn content_of(entry: Entry) -> Content
 }
 
 pub(crate) fn outcome_of_receipt(receipt: Receipt) -> Outcome
-    ensures { λ r. ⌜ lineOf r ≡ frameLine (receiptAnswer receipt [] .number) (receiptAnswer receipt []) ⌝ }
+    ensures { λ r. ⌜ lineOf r ≡ frameLine (receiptAnswer receipt []) ⌝ }
 {
     match receipt {
         Receipt::Accepted(judged) => {
