@@ -1,5 +1,5 @@
 -- The claim about lists of arrivals, for every start table and for every record lent alone. Assumes nothing.
-use Prim.Native.Nat.{ℕ, zero, suc}
+use Prim.Native.Nat.{ℕ, suc}
 use mathlib.Core.Path.{_≡_, refl, sym, ap, _∙_, subst, fun-ext}
 use mathlib.Core.Logic.{_≢_}
 use mathlib.Core.Bool.{true, false, false≢true}
@@ -7,13 +7,13 @@ use mathlib.Core.List.{List, [], _∷_}
 use mathlib.Core.Option.{some}
 use native.Mathlib.Omega.{arith}
 use lib.Dec.{lit≤, eqb}
-use lib.ListN.{length, getElem?, length-set}
+use lib.ListN.{length, getElem?}
 use borrow.Author.Tests.{eqb-true, eq-eqb}
 use Rattle.stream.specs.declared.Counts.{Counts}
 use Rattle.stream.specs.Records.{admitted}
 use Rattle.stream.proofs.Laws.{admitted-counts}
 use Rattle.stream.specs.declared.Record.{Record}
-use Rattle.stream.specs.Answers.{after, idOf}
+use Rattle.stream.specs.Answers.{idOf}
 use Rattle.table.specs.Table.{Table, holds, place, at, only, numberWith, receive, receiveAlone}
 use Rattle.table.proofs.Lengths.{length-receive}
 use Rattle.arrivals.specs.Arrivals.{Arrival, run, runAlone, isAccepted, ofStream, OneStream, StreamRecord, those, answersTo, replay, WithinCap, Counted, Claim}

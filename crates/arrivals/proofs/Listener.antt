@@ -12,7 +12,6 @@ use Rattle.refusal.specs.Refusals.{firstOf, ifAccepted}
 use Rattle.frame.specs.Checks.{refusal}
 use Rattle.refusal.proofs.First.{clear, orElse}
 use Rattle.writer.specs.declared.Sender.{Sender}
-use Rattle.writer.specs.Frames.{frameBytes}
 use Rattle.writer.specs.Writing.{writeRefusal, advanced, writing}
 use Rattle.round_trip.specs.ReadBack.{SenderTyped, GivenTyped, fieldsWritten, frameLeft}
 use Rattle.round_trip.specs.WriteBack.{senderOf}

@@ -6,12 +6,12 @@ use lib.ListN.{length}
 use Rattle.capture.specs.Records.{Held, damaged, arrival, admission, removal, frameIn}
 use Rattle.stream.specs.declared.Receipt.{Receipt}
 use Rattle.stream.specs.declared.Receipt.the-variants as receipt
-use Rattle.stream.specs.Answers.{Answer, receiptAnswer}
+use Rattle.stream.specs.Answers.{receiptAnswer}
 use Rattle.table.specs.declared.Change.{Change}
 use Rattle.table.specs.Table.{Table, changeNumber, admit, remove, receive}
 use Rattle.table.proofs.Lengths.{length-admit, length-remove, length-receive}
 use Rattle.lines.specs.declared.Outcome.{Outcome}
-use Rattle.lines.specs.Lines.{Line, admitted, removed, lineOf}
+use Rattle.lines.specs.Lines.{admitted, removed, lineOf}
 use Rattle.listing.specs.Listing.{changeLine, frameLine, step}
 use Rattle.listing.specs.Private.{Obeyed}
 

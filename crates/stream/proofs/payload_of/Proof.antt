@@ -1,12 +1,10 @@
-use mathlib.Core.Path.{_≡_, refl, sym, ap, _∙_}
+use mathlib.Core.Path.{_≡_, refl, _∙_}
 use mathlib.Core.List.{List, []}
 use Prim.Native.Nat.{ℕ}
-use native.Mathlib.Omega.{arith}
-use denote.Ref.{now}
 use borrow.Author.Needs.{needs}
 use Rattle.refusal.specs.declared.Refusal.{Refusal}
 use Rattle.refusal.specs.Refusals.{numberOf}
-use Rattle.stream.specs.Answers.{receiptAnswer, refusedWith}
+use Rattle.stream.specs.Answers.{refusedWith}
 use Rattle.stream.proofs.payload_of.Statement.{statement}
 use Rattle.stream.proofs.payload_of.Tie as tie
 
