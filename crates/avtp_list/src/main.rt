@@ -1,97 +1,63 @@
 // Lists captures: the files that the arguments name, one after the other, or standard input.
+mod help;
+
 use libc::STDERR_FILENO;
 use libc::STDIN_FILENO;
 use libc::STDOUT_FILENO;
 use lines::Placed;
+use program::formats;
+use program::input;
+use program::input::Source;
+use program::messages;
+use program::options;
+use program::options::Request;
+use program::options::Word;
+use program::progress;
 use stream::Record;
 ghost use mathlib.Core.Path.{_≡_};
-ghost use Prim.Native.Nat.{_-_, _≤_};
+ghost use Prim.Native.Nat.{_≤_};
 ghost use lib.ListN.{length};
-ghost use lib.Seq.{sets};
-ghost use Rattle.wire.specs.Numbers.{part};
+ghost use Rattle.avtp_list.specs.Turns.{InPlace, Turned};
 
-// What a turn leaves: the table, the records listed, the place of the bytes that are not listed yet and their end, whether there is
-// more to come, and whether reading or writing failed.
+// Where a listing stands.
+enum Stage {
+    Going,
+    Read,
+    CannotRead,
+    CannotWrite,
+}
+
+// What a turn leaves: the table, the records listed, the place of the bytes that are not listed yet and their end, and the stage.
 struct State {
     table: [Record; 64],
     records: u64,
     from: usize,
     have: usize,
-    going: bool,
-    failed: bool,
+    stage: Stage,
 }
 
-// What reading found: where the bytes end now, and whether it failed. The same end says that nothing came.
-struct Filled {
-    end: usize,
-    failed: bool,
-}
-
-// Room for the input: more than the 65,537 bytes of the longest record.
-fn input_room() -> [u8; 262144]
-    ensures { λ r. ⌜ 262144 ≡ length r ⌝ }
-{
-    [0u8; 262144]
-}
-
-// Moves the bytes from a place on to the front.
-fn move_down(input: &mut [u8], from: usize, have: usize)
-    requires { ⌜ (from ≤ have) × (have ≤ length (now input)) ⌝ }
-    ensures { λ _. ⌜ now (input .exit) ≡ sets (now (input .entry)) 0 (part from (have - from) (now (input .entry))) ⌝ }
-{
-    let mut i = from;
-    while i < have {
-        input[i - from] = input[i];
-        i += 1;
+fn is_going(stage: Stage) -> bool {
+    match stage {
+        Stage::Going => true,
+        Stage::Read => false,
+        Stage::CannotRead => false,
+        Stage::CannotWrite => false,
     }
 }
 
-// Reads more behind what there is.
-fn fill(fd: i32, name: &[u8], input: &mut [u8], have: usize) -> Filled
-    requires { ⌜ have ≤ length (now input) ⌝ }
-    ensures { λ r. ⌜ (have ≤ r .end) × (r .end ≤ length (now (input .exit))) ⌝ }
-{
-    let part = &mut input[have..];
-    let got = libc::read(fd, part);
-    let failed = got < 0;
-    if failed {
-        os::fail(name);
-    }
-    let n = io::count(got, part);
-    Filled {
-        end: have + n,
-        failed,
-    }
-}
-
-// Writes text to standard output, or says why it cannot.
-fn write(text: &[u8]) -> bool {
-    let written = io::write_all(STDOUT_FILENO, text);
-    if !written {
-        os::fail(b"standard output");
-    }
-    written
-}
-
-// A listing stops here.
-fn stopped(s: State) -> State
-    ensures { λ r. ⌜ (r .from ≡ 0) × (r .have ≡ 0) ⌝ }
-{
-    let table = s.table;
-    State {
-        table,
-        records: s.records,
-        from: 0,
-        have: 0,
-        going: false,
-        failed: true,
+// There is more to list, or all has been read, or it cannot be.
+fn stage_of(source: Source) -> Stage {
+    match source {
+        Source::Open => Stage::Going,
+        Source::Ended => Stage::Read,
+        Source::Failed => Stage::CannotRead,
     }
 }
 
 // Lists the whole records at the front of what has been read, and writes their lines. Where there is none, reads more.
-fn turn(fd: i32, name: &[u8], input: &mut [u8], out: &mut [u8], s: State) -> State
-    requires { ⌜ (s .from ≤ s .have) × (s .have ≤ length (now input)) ⌝ }
-    ensures { λ r. ⌜ (r .from ≤ r .have) × (r .have ≤ length (now (input .exit))) ⌝ }
+fn turn(fd: i32, input: &mut [u8], out: &mut [u8], s: State) -> State
+    requires { ⌜ InPlace (now input) s ⌝ }
+    ensures { λ r. ⌜ Turned (now (input .entry)) (now (out .entry)) s r (now (input .exit)) (now (out .exit)) ⌝ }
 {
     let from = s.from;
     let have = s.have;
@@ -101,50 +67,34 @@ fn turn(fd: i32, name: &[u8], input: &mut [u8], out: &mut [u8], s: State) -> Sta
     let progress = listed.progress;
     let put = progress.put;
     let records = progress.records;
-    if !write(&out[0..put]) {
-        return stopped(s);
-    }
     let used = progress.at;
+    let next = from + used;
+    if !io::write_all(STDOUT_FILENO, &out[0..put]) {
+        return State {
+            table,
+            records,
+            from: next,
+            have,
+            stage: Stage::CannotWrite,
+        };
+    }
     if used > 0 {
         return State {
             table,
             records,
-            from: from + used,
+            from: next,
             have,
-            going: true,
-            failed: false,
+            stage: Stage::Going,
         };
     }
-    move_down(input, from, have);
-    let left = have - from;
-    let filled = fill(fd, name, input, left);
-    let end = filled.end;
+    let filled = input::refill(fd, input, from, have);
+    let source = filled.source;
     State {
         table,
         records,
         from: 0,
-        have: end,
-        going: end > left,
-        failed: filled.failed,
-    }
-}
-
-// Once in many turns, and only on a terminal: how far a long capture has come.
-fn tell_progress(turns: u64, records: u64) {
-    if turns % 1024 != 0 {
-        return;
-    }
-    if libc::isatty(STDERR_FILENO) != 1 {
-        return;
-    }
-    io::write_all(STDERR_FILENO, b"\r");
-    io::print_decimal(STDERR_FILENO, records);
-    io::write_all(STDERR_FILENO, b" records");
-}
-
-fn hide_progress() {
-    if libc::isatty(STDERR_FILENO) == 1 {
-        io::write_all(STDERR_FILENO, b"\r                             \r");
+        have: filled.end,
+        stage: stage_of(source),
     }
 }
 
@@ -153,7 +103,7 @@ fn write_line(placed: Placed, out: &[u8]) -> bool {
     match placed {
         Placed::UpTo(end) => {
             if end <= out.len() {
-                return write(&out[0..end]);
+                return messages::write(b"avtp_list", &out[0..end]);
             }
             false
         }
@@ -172,108 +122,155 @@ fn write_ending(out: &mut [u8], records: u64, left: usize) -> bool {
     write_line(lines, out)
 }
 
-fn start() -> State
-    ensures { λ r. ⌜ (r .from ≡ 0) × (r .have ≡ 0) ⌝ }
+fn start(have: usize) -> State
+    ensures { λ r. ⌜ (r .from ≡ 0) × (r .have ≡ have) ⌝ }
 {
     State {
         table: table::unused_table(),
         records: 0,
         from: 0,
-        have: 0,
-        going: true,
-        failed: false,
+        have,
+        stage: Stage::Going,
     }
 }
 
-// The records of a capture. A proved loop has to end, so the turns are counted down from a number that no run uses up.
-fn list_records(fd: i32, name: &[u8], input: &mut [u8], out: &mut [u8]) -> State
+// The records of a capture of which so many bytes have been read. A proved loop has to end, so the turns are counted down from a number
+// that no run uses up.
+fn list_records(fd: i32, input: &mut [u8], have: usize, out: &mut [u8]) -> State
+    requires { ⌜ have ≤ length (now input) ⌝ }
     ensures { λ r. ⌜ r .from ≤ r .have ⌝ }
 {
-    let mut s = start();
+    let mut s = start(have);
+    let mut shown = progress::start();
+    let mut going = true;
     let mut turns = u64::MAX;
-    while turns > 0 && s.going {
-        s = turn(fd, name, input, out, s);
+    while turns > 0 && going {
+        shown = progress::tell(shown, s.records);
+        s = turn(fd, input, out, s);
+        let stage = s.stage;
+        going = is_going(stage);
         turns -= 1;
-        tell_progress(turns, s.records);
     }
+    progress::hide(shown);
     s
 }
 
-// A whole capture, from its first line to its last. After a failure there is no last line.
-fn list(fd: i32, name: &[u8]) {
-    let mut input = input_room();
+// The end of a listing. After a failure there is no last line. Answers whether the run goes on.
+fn finish(name: &[u8], out: &mut [u8], s: State) -> bool
+    requires { ⌜ s .from ≤ s .have ⌝ }
+{
+    let stage = s.stage;
+    match stage {
+        Stage::Going => true,
+        Stage::Read => write_ending(out, s.records, s.have - s.from),
+        Stage::CannotRead => {
+            messages::fail(b"avtp_list", name);
+            true
+        }
+        Stage::CannotWrite => {
+            messages::fail_output(b"avtp_list");
+            false
+        }
+    }
+}
+
+// A whole capture, from its first line to its last. What cannot be read at all has no first line. Answers whether the run goes on.
+fn list(fd: i32, name: &[u8], told: bool) -> bool {
+    let mut input = input::room();
     let mut out = io::large_buffer();
+    let first = input::first(fd, &mut input, 4);
+    let source = first.source;
+    let have = first.end;
+    if has_failed(source) {
+        messages::fail(b"avtp_list", name);
+        return true;
+    }
+    if told {
+        messages::say(b"avtp_list", name, b"listing");
+    }
+    formats::hint(b"avtp_list", name, formats::recognise(&input[0..have]));
     if !write_start(&mut out) {
-        return;
+        return false;
     }
-    let s = list_records(fd, name, &mut input, &mut out);
-    hide_progress();
-    if s.failed {
-        return;
+    let s = list_records(fd, &mut input, have, &mut out);
+    finish(name, &mut out, s)
+}
+
+fn has_failed(source: Source) -> bool {
+    match source {
+        Source::Open => false,
+        Source::Ended => false,
+        Source::Failed => true,
     }
-    write_ending(&mut out, s.records, s.have - s.from);
 }
 
 fn is_dash(name: &[u8]) -> bool {
     name.len() == 1 && name[0] == b'-'
 }
 
-fn list_named(name: &[u8]) {
+fn list_named(name: &[u8], told: bool) -> bool {
     if is_dash(name) {
-        list(STDIN_FILENO, b"standard input");
-        return;
+        return list(STDIN_FILENO, b"standard input", told);
     }
     let fd = os::open_read(name);
     if fd < 0 {
-        os::fail(name);
-        return;
+        messages::fail(b"avtp_list", name);
+        return true;
     }
-    list(fd, name);
+    let goes_on = list(fd, name, told);
     libc::close(fd);
+    goes_on
 }
 
-fn show_help() {
-    write(b"avtp_list [FILE..]\n");
-    write(
-        b"Lists captures of AVTP streams, one line for each record. Without FILE, or where FILE is -, standard input is read.\n",
-    );
+fn list_argument(i: usize, told: bool) -> bool {
+    let mut room = io::buffer();
+    let n = options::argument(i, &mut room);
+    list_named(&room[..n], told)
 }
 
-fn is_help(name: &[u8]) -> bool {
-    if name.len() != 6 {
-        return false;
+// The captures that are named, by every argument but `--`. Each is told by its name where there are several.
+fn list_names(request: Request, names: usize) {
+    let told = names > 1 && libc::isatty(STDERR_FILENO) == 1;
+    let count = request.count;
+    let rest = request.at;
+    let mut i = 1;
+    while i < count {
+        if i != rest && !list_argument(i, told) {
+            return;
+        }
+        i += 1;
     }
-    (name[0] == b'-')
-        & (name[1] == b'-')
-        & (name[2] == b'h')
-        & (name[3] == b'e')
-        & (name[4] == b'l')
-        & (name[5] == b'p')
 }
 
-fn list_argument(i: usize) {
-    let mut name = io::buffer();
-    let n = os::arg(i, &mut name);
-    if os::errno() != 0 {
-        os::fail(b"argument");
+// No capture is named: standard input, unless that waits for keys.
+fn list_input() {
+    if libc::isatty(STDIN_FILENO) == 1 {
+        io::write_all(
+            STDERR_FILENO,
+            b"usage: avtp_list [FILE..]\nTry avtp_list --help.\n",
+        );
         return;
     }
-    if is_help(&name[..n]) {
-        show_help();
+    list(STDIN_FILENO, b"standard input", false);
+}
+
+fn run(request: Request) {
+    let names = options::names(request);
+    if names == 0 {
+        list_input();
         return;
     }
-    list_named(&name[..n]);
+    list_names(request, names);
 }
 
 fn main() {
-    let count = os::arg_count();
-    if count < 2 {
-        list(STDIN_FILENO, b"standard input");
-        return;
-    }
-    let mut i = 1;
-    while i < count {
-        list_argument(i);
-        i += 1;
+    let request = options::read_request();
+    let word = request.word;
+    match word {
+        Word::Help => help::show_help(),
+        Word::Version => help::show_version(),
+        Word::Unknown => options::refuse(b"avtp_list", request.at),
+        Word::Name => run(request),
+        Word::Rest => run(request),
     }
 }

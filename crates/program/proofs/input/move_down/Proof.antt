@@ -7,8 +7,8 @@ use lib.Seq.{sets, getD-set-other, getD-drop, length-take-le}
 use denote.Ref.{now}
 use borrow.Author.Needs.{needs}
 use Rattle.text.proofs.Sets.{sets-more}
-use Rattle.avtp_list.proofs.move_down.Statement.{statement}
-use Rattle.avtp_list.proofs.move_down.Tie as tie
+use Rattle.program.proofs.input.move_down.Statement.{statement}
+use Rattle.program.proofs.input.move_down.Tie as tie
 
 -- past a text a buffer is as it was
 past-text : (vs d : List ℕ) (k i : ℕ) → k + length vs ≤ i → getD (sets d k vs) i 0 ≡ getD d i 0
@@ -62,6 +62,9 @@ loop-again c =
     let a = c .before .before .before .args in
     (omega arith, omega arith, simp length-set (l .inv .2), moved (now (a .input)) (a .from) (l .i) (l .input) (l .inv .0) (omega arith) (l .inv .3))
 
+sub-result : tie.Need-sub-result Inv-loop μ-loop
+sub-result c = search needs
+
 same-length : tie.Need-same-length Inv-loop μ-loop
 same-length c = search needs
 
@@ -70,7 +73,7 @@ returns c =
     let l = c .before .loop in
     let a = c .before .before .args in
     let e : l .i ≡ a .have = omega arith in
-    l .inv .3 ∙ ap (λ (i : ℕ). sets (now (a .input)) 0 (take (i - a .from) (drop (a .from) (now (a .input))))) e
+    (omega arith, l .inv .3 ∙ ap (λ (i : ℕ). sets (now (a .input)) 0 (take (i - a .from) (drop (a .from) (now (a .input))))) e)
 
 pub move-down-spec : {M : Type 1} → statement M
 move-down-spec =
@@ -85,5 +88,6 @@ move-down-spec =
     add-i
     loop-less
     loop-again
+    sub-result
     same-length
     returns)

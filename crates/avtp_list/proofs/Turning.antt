@@ -1,0 +1,84 @@
+-- What a turn leaves of the bytes that were not listed yet. Assumes nothing.
+use Prim.Native.Nat.{ℕ, zero, suc, _+_, _-_, _≤_}
+use mathlib.Core.Path.{_≡_, refl, sym, ap, _∙_}
+use mathlib.Core.Bool.{Bool, true, false}
+use mathlib.Core.List.{List, [], _∷_}
+use native.Mathlib.Omega.{arith}
+use lib.ListN.{length, take, drop, length-drop}
+use lib.Seq.{take-nil, take-length, take-take, drop-drop, length-take-le}
+use Rattle.table.specs.Table.{Table}
+use Rattle.program.specs.declared.input.Filled.{Filled}
+use Rattle.program.specs.Input.{isOpen, between, ReadBehind}
+use Rattle.listing.specs.declared.chunk.Progress.{Progress}
+use Rattle.listing.specs.Chunks.{chunked, ChunkListed}
+use Rattle.listing.proofs.InChunks.{in-chunks}
+use Rattle.avtp_list.specs.declared.Stage.{Stage}
+use Rattle.avtp_list.specs.declared.State.{State}
+use Rattle.avtp_list.specs.Turns.{InPlace, Turned}
+
+drop-take : (m n : ℕ) (l : List ℕ) → drop m (take n l) ≡ take (n - m) (drop m l)
+drop-take zero n l = let e : n ≡ n - 0 = omega arith in ap (λ (k : ℕ). take k l) e
+drop-take (suc m) zero l = let e : 0 ≡ 0 - suc m = omega arith in ap (λ (k : ℕ). take k (drop (suc m) l)) e
+drop-take (suc m) (suc n) [] = sym (take-nil (suc n - suc m))
+drop-take (suc m) (suc n) (x ∷ l) = let e : n - m ≡ suc n - suc m = omega arith in drop-take m n l ∙ ap (λ (k : ℕ). take k (drop m l)) e
+
+-- what is left of a chunk is its end
+left-over : (chunk : List ℕ) (t : Table) (n room : ℕ) → drop (length chunk - length (chunked chunk t n room .rest)) chunk ≡ chunked chunk t n room .rest
+unfolding chunked
+left-over chunk t n room = in-chunks .walked .left-over _ chunk t
+
+-- bytes that are used, and those behind them
+behind-used : (input : List ℕ) (from have used : ℕ) → drop used (between from have input) ≡ between (from + used) have input
+behind-used input from have used =
+    let n : have - from - used ≡ have - (from + used) = omega arith in
+    drop-take used (have - from) (drop from input) ∙ ap (take (have - from - used)) (drop-drop used from input) ∙ ap (λ (k : ℕ). take k (drop (from + used) input)) n
+
+-- at least what was there is there
+grown : {left input input′ : List ℕ} {r : Filled} → ReadBehind left input input′ r → length left ≤ r .end
+grown {left} {r = r} p = go (isOpen (r .source)) refl
+  where
+    go : (s : Bool) → isOpen (r .source) ≡ s → length left ≤ r .end
+    go true e = omega (arith, p .more e)
+    go false e = omega (arith, p .shut e)
+
+module _ (input d : List ℕ) (s : State) where
+  -- the bytes that are not listed yet, and those that are left of them
+  abbrev chunk : List ℕ
+  chunk = between (s .from) (s .have) input
+
+  abbrev rest : List ℕ
+  rest = chunked chunk (s .table) (s .records) (length d) .rest
+
+  module _ {d′ : List ℕ} {p : Progress} {t′ : Table} (h : InPlace input s) (l : ChunkListed chunk (s .table) (s .records) d p t′ d′) (stage : Stage) where
+    many : length chunk ≡ s .have - s .from
+    many = length-take-le (s .have - s .from) (drop (s .from) input) (rw (length-drop (s .from) input) (omega (arith, h)))
+
+    left : drop (p .at) chunk ≡ rest
+    left = ap (λ (n : ℕ). drop n chunk) (l .at) ∙ left-over chunk (s .table) (s .records) (length d)
+
+    -- nothing was read
+    pub went-on : Turned input d s (record { table = t′; records = p .records; from = s .from + p .at; have = s .have; stage = stage }) input d′
+    went-on =
+        record {
+          table = l .table;
+          records = l .records;
+          lines = l .out;
+          left = ap (take (length rest)) (sym (behind-used input (s .from) (s .have) (p .at)) ∙ left) ∙ take-length rest;
+          size = refl;
+          places = (omega (arith, h, l .at-within, many), h .1);
+        }
+
+    -- none was used, and more may have been read
+    pub read-on : {input′ : List ℕ} {f : Filled} → p .at ≡ 0 → ReadBehind chunk input input′ f
+        → Turned input d s (record { table = t′; records = p .records; from = 0; have = f .end; stage = stage }) input′ d′
+    read-on {input′} {f} none r =
+        let same : chunk ≡ rest = ap (λ (n : ℕ). drop n chunk) (sym none) ∙ left in
+        let front : take (length chunk) (between 0 (f .end) input′) ≡ chunk = take-take (length chunk) (f .end - 0) input′ (omega (arith, grown r)) ∙ r .kept in
+        record {
+          table = l .table;
+          records = l .records;
+          lines = l .out;
+          left = ap (λ (x : List ℕ). take (length x) (between 0 (f .end) input′)) (sym same) ∙ front ∙ same;
+          size = r .size;
+          places = (omega arith, omega (arith, r .within, r .size));
+        }

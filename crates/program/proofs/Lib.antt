@@ -1,0 +1,5 @@
+pub mod Starts
+pub mod Names
+pub mod Reading
+pub mod Arguments
+pub mod Printable

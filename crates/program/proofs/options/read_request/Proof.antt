@@ -1,0 +1,42 @@
+use Prim.Native.Nat.{_-_}
+use mathlib.Core.Path.{sym, _∙_}
+use native.Mathlib.Omega.{arith}
+use borrow.Author.Needs.{needs}
+use borrow.Author.Tests.{not-true, not-false}
+use Rattle.program.proofs.Arguments.{Names, no-names, all-names, one-more, an-option}
+use Rattle.program.proofs.options.read_request.Statement.{statement}
+use Rattle.program.proofs.options.read_request.Tie as tie
+
+abbrev Inv-loop : tie.InvT-loop
+Inv-loop count i₀ i = Names i
+
+abbrev μ-loop : tie.MeasureT-loop
+μ-loop count i₀ i = count - i
+
+returns : tie.Need-returns Inv-loop μ-loop
+returns c =
+    let asked = c .before in
+    let said = asked .before in
+    an-option (said .before .before .loop .inv) (said .word-at .ensures) (sym (asked .is-name .ensures) ∙ not-true _ (c .if1 .taken))
+
+loop-again : tie.Need-loop-again Inv-loop μ-loop
+loop-again c =
+    let asked = c .before in
+    let said = asked .before in
+    one-more (said .before .before .loop .inv) (said .word-at .ensures) (sym (asked .is-name .ensures) ∙ not-false _ (c .if1 .left))
+
+pub read-request-spec : {M : Type 1} → statement M
+read-request-spec =
+    tie.close
+    (tie.spec
+    Inv-loop
+    μ-loop
+    (λ c κs. tt)
+    (λ c. no-names)
+    (λ c κs. tt)
+    (λ c κs. tt)
+    returns
+    (λ c. omega arith)
+    (λ c. omega arith)
+    loop-again
+    (λ c. all-names (c .before .loop .inv)))

@@ -1,0 +1,35 @@
+-- A buffer that holds what was read and is not used yet, between two places.
+use Prim.Native.Nat.{ℕ, _-_, _≤_, _<_}
+use mathlib.Core.Path.{_≡_}
+use mathlib.Core.Bool.{Bool, true, false}
+use mathlib.Core.List.{List}
+use lib.ListN.{length, take}
+use Rattle.wire.specs.Numbers.{part}
+use Rattle.program.specs.declared.input.Source.{Source}
+use Rattle.program.specs.declared.input.Source.the-variants.{Open, Ended, Failed}
+use Rattle.program.specs.declared.input.Filled.{Filled}
+
+-- may more come?
+abbrev pub isOpen : Source → Bool
+isOpen Open = true
+isOpen Ended = false
+isOpen Failed = false
+
+-- the bytes between two places, as far as the buffer has them
+abbrev pub between : ℕ → ℕ → List ℕ → List ℕ
+between from have d = part from (have - from) d
+
+-- more is read into the buffer d behind these bytes, which stand at its front afterwards: d′ is the buffer then, and r what is answered.
+-- What comes is the system's to say: something where more may come, and nothing elsewhere
+pub record ReadBehind (left d d′ : List ℕ) (r : Filled) : Type 0 where
+  pub kept : take (length left) d′ ≡ left
+  pub size : length d′ ≡ length d
+  pub within : r .end ≤ length d
+  pub more : isOpen (r .source) ≡ true → length left < r .end
+  pub shut : isOpen (r .source) ≡ false → r .end ≡ length left
+
+-- the first bytes are read into the buffer d: d′ is the buffer afterwards. There are at least as many as are wanted where more may come
+pub record First (wanted : ℕ) (d d′ : List ℕ) (r : Filled) : Type 0 where
+  pub size : length d′ ≡ length d
+  pub within : r .end ≤ length d
+  pub more : isOpen (r .source) ≡ true → wanted ≤ r .end

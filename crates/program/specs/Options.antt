@@ -1,0 +1,61 @@
+-- The words that a program is started with.
+use Prim.Native.Nat.{ℕ, suc, _-_}
+use mathlib.Core.Path.{_≡_}
+use mathlib.Core.Bool.{Bool, true, false, cond}
+use mathlib.Core.List.{List, [], _∷_}
+use lib.Dec.{ltb}
+use lib.ListN.{length}
+use Rattle.text.specs.Text.{ascii}
+use Rattle.program.specs.Words.{startsWith, same}
+use Rattle.program.specs.declared.options.Word.{Word}
+use Rattle.program.specs.declared.options.Word.the-variants.{Name, Help, Version, Rest, Unknown}
+use Rattle.program.specs.declared.options.Request.{Request}
+
+-- ---- one word
+
+-- a dash and more is an option, or is meant as one
+abbrev pub dashed : List ℕ → Bool
+dashed w = cond (ltb (length w) 2) false (startsWith (ascii "-") w)
+
+abbrev pub option : List ℕ → Word
+option w =
+    cond (same (ascii "--") w) Rest
+    (cond (same (ascii "-h") w) Help
+    (cond (same (ascii "--help") w) Help
+    (cond (same (ascii "--version") w) Version
+    Unknown)))
+
+-- every other word is a name
+unfoldable pub meaning : List ℕ → Word
+meaning w = cond (dashed w) (option w) Name
+
+-- ---- all of them
+
+abbrev pub isName : Word → Bool
+isName Name = true
+isName Help = false
+isName Version = false
+isName Rest = false
+isName Unknown = false
+
+-- the first of the words that is no name, and its place, counted on from a place; a name and the place behind them where all are names
+unfoldable pub firstOption : ℕ → List (List ℕ) → Word × ℕ
+firstOption at [] = (Name, at)
+firstOption at (w ∷ ws) = cond (isName (meaning w)) (firstOption (suc at) ws) (meaning w, at)
+
+-- the meaning of some word: which it is the system says
+pub record Said (r : Word) : Type 0 where
+  pub word : List ℕ
+  pub meant : r ≡ meaning word
+
+-- the answer is that of some words
+pub record Requested (r : Request) : Type 0 where
+  pub words : List (List ℕ)
+  pub first : (r .word, r .at) ≡ firstOption 1 words
+
+-- how many are no names: the program's own, and the one that is no name
+abbrev pub othersBy : Word → ℕ
+othersBy w = cond (isName w) 1 2
+
+abbrev pub namesOf : Request → ℕ
+namesOf r = r .count - othersBy (r .word)
