@@ -1,20 +1,23 @@
 -- What a turn leaves of the bytes that were not listed yet. Assumes nothing.
 use Prim.Native.Nat.{ℕ, zero, suc, _+_, _-_, _≤_}
-use mathlib.Core.Path.{_≡_, refl, sym, ap, _∙_}
+use mathlib.Core.Path.{_≡_, refl, sym, ap, _∙_, subst}
 use mathlib.Core.Bool.{Bool, true, false}
 use mathlib.Core.List.{List, [], _∷_}
 use native.Mathlib.Omega.{arith}
-use lib.ListN.{length, take, drop, length-drop}
-use lib.Seq.{take-nil, take-length, take-take, drop-drop, length-take-le}
+use lib.Dec.{T}
+use lib.ListN.{length, take, drop, length-drop, length-take}
+use lib.Seq.{take-nil, take-length, take-all, take-take, drop-drop, length-take-le}
 use Rattle.table.specs.Table.{Table}
 use Rattle.program.specs.declared.input.Filled.{Filled}
+use Rattle.program.specs.declared.input.Source.{Source}
+use Rattle.program.specs.declared.input.Source.the-variants.{Open, Ended, Failed}
 use Rattle.program.specs.Input.{isOpen, between, ReadBehind}
 use Rattle.listing.specs.declared.chunk.Progress.{Progress}
 use Rattle.listing.specs.Chunks.{chunked, ChunkListed}
 use Rattle.listing.proofs.InChunks.{in-chunks}
 use Rattle.avtp_list.specs.declared.Stage.{Stage}
 use Rattle.avtp_list.specs.declared.State.{State}
-use Rattle.avtp_list.specs.Turns.{InPlace, Turned}
+use Rattle.avtp_list.specs.Turns.{stageBy, isRead, InPlace, Turned}
 
 drop-take : (m n : ℕ) (l : List ℕ) → drop m (take n l) ≡ take (n - m) (drop m l)
 drop-take zero n l = let e : n ≡ n - 0 = omega arith in ap (λ (k : ℕ). take k l) e
@@ -41,6 +44,15 @@ grown {left} {r = r} p = go (isOpen (r .source)) refl
     go true e = omega (arith, p .more e)
     go false e = omega (arith, p .shut e)
 
+-- where all has been read nothing more comes
+read-shut : (source : Source) → isRead (stageBy source) ≡ true → isOpen source ≡ false
+read-shut Open e = sym e
+read-shut Ended e = refl
+read-shut Failed e = refl
+
+pub many : (input : List ℕ) (s : State) → InPlace input s → length (between (s .from) (s .have) input) ≡ s .have - s .from
+many input s h = length-take-le (s .have - s .from) (drop (s .from) input) (rw (length-drop (s .from) input) (omega (arith, h)))
+
 module _ (input d : List ℕ) (s : State) where
   -- the bytes that are not listed yet, and those that are left of them
   abbrev chunk : List ℕ
@@ -49,29 +61,27 @@ module _ (input d : List ℕ) (s : State) where
   abbrev rest : List ℕ
   rest = chunked chunk (s .table) (s .records) (length d) .rest
 
-  module _ {d′ : List ℕ} {p : Progress} {t′ : Table} (h : InPlace input s) (l : ChunkListed chunk (s .table) (s .records) d p t′ d′) (stage : Stage) where
-    many : length chunk ≡ s .have - s .from
-    many = length-take-le (s .have - s .from) (drop (s .from) input) (rw (length-drop (s .from) input) (omega (arith, h)))
-
+  module _ {d′ : List ℕ} {p : Progress} {t′ : Table} (h : InPlace input s) (l : ChunkListed chunk (s .table) (s .records) d p t′ d′) where
     left : drop (p .at) chunk ≡ rest
     left = ap (λ (n : ℕ). drop n chunk) (l .at) ∙ left-over chunk (s .table) (s .records) (length d)
 
     -- nothing was read
-    pub went-on : Turned input d s (record { table = t′; records = p .records; from = s .from + p .at; have = s .have; stage = stage }) input d′
-    went-on =
+    pub went-on : (stage : Stage) → isRead stage ≡ false → Turned input d s (record { table = t′; records = p .records; from = s .from + p .at; have = s .have; stage = stage }) input d′
+    went-on stage going =
         record {
           table = l .table;
           records = l .records;
           lines = l .out;
           left = ap (take (length rest)) (sym (behind-used input (s .from) (s .have) (p .at)) ∙ left) ∙ take-length rest;
           size = refl;
-          places = (omega (arith, h, l .at-within, many), h .1);
+          places = (omega (arith, h, l .at-within, many input s h), h .1);
+          ended = λ e. absurd (subst T (sym e ∙ going) tt);
         }
 
     -- none was used, and more may have been read
-    pub read-on : {input′ : List ℕ} {f : Filled} → p .at ≡ 0 → ReadBehind chunk input input′ f
+    pub read-on : {input′ : List ℕ} {f : Filled} {stage : Stage} → p .at ≡ 0 → ReadBehind chunk input input′ f → stage ≡ stageBy (f .source)
         → Turned input d s (record { table = t′; records = p .records; from = 0; have = f .end; stage = stage }) input′ d′
-    read-on {input′} {f} none r =
+    read-on {input′} {f} {stage} none r by =
         let same : chunk ≡ rest = ap (λ (n : ℕ). drop n chunk) (sym none) ∙ left in
         let front : take (length chunk) (between 0 (f .end) input′) ≡ chunk = take-take (length chunk) (f .end - 0) input′ (omega (arith, grown r)) ∙ r .kept in
         record {
@@ -81,4 +91,9 @@ module _ (input d : List ℕ) (s : State) where
           left = ap (λ (x : List ℕ). take (length x) (between 0 (f .end) input′)) (sym same) ∙ front ∙ same;
           size = r .size;
           places = (omega arith, omega (arith, r .within, r .size));
+          ended = λ e.
+              let none-came : f .end ≡ length chunk = r .shut (read-shut (f .source) (sym (ap isRead by) ∙ e)) in
+              let all : between 0 (f .end) input′ ≡ take (length chunk) (between 0 (f .end) input′) =
+              sym (take-all (length chunk) (between 0 (f .end) input′) (omega (arith, none-came, length-take (f .end - 0) input′))) in
+              (ap length (sym same) ∙ many input s h, all ∙ front ∙ same);
         }

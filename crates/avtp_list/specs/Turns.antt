@@ -1,15 +1,45 @@
--- One turn of the program: what is listed of the bytes that have been read and are not listed yet, and what it leaves.
-use Prim.Native.Nat.{ℕ, _≤_}
+-- Listing a capture as it is read: one turn of the program, and all of them.
+use Prim.Native.Nat.{ℕ, _-_, _≤_}
 use mathlib.Core.Path.{_≡_}
-use mathlib.Core.List.{List}
-use lib.ListN.{length, take}
+use mathlib.Core.Bool.{Bool, true, false}
+use mathlib.Core.List.{List, _++_}
+use lib.Dec.{ltb}
+use lib.ListN.{length, take, replicate}
 use lib.Seq.{sets}
 use Rattle.capture.specs.Walk.{ChunkWalk}
+use Rattle.stream.specs.Records.{unused}
 use Rattle.table.specs.Table.{Table}
+use Rattle.lines.specs.Lines.{startLine, ending}
+use Rattle.program.specs.declared.input.Source.{Source}
+use Rattle.program.specs.declared.input.Source.the-variants.{Open, Ended, Failed}
 use Rattle.program.specs.Input.{between}
 use Rattle.listing.specs.Listing.{Said, linesAfter, numberAfter}
 use Rattle.listing.specs.Chunks.{chunked}
+use Rattle.listing.specs.InChunks.{LentChunk, captureOf, unlisted, listChunks, ListedAs}
+use Rattle.avtp_list.specs.declared.Stage.{Stage}
+use Rattle.avtp_list.specs.declared.Stage.the-variants.{Going, Read, CannotRead, CannotWrite}
 use Rattle.avtp_list.specs.declared.State.{State}
+
+-- ---- Where a listing stands
+
+-- by what became of the input
+abbrev pub stageBy : Source → Stage
+stageBy Open = Going
+stageBy Ended = Read
+stageBy Failed = CannotRead
+
+-- has all been read and listed?
+abbrev pub isRead : Stage → Bool
+isRead Going = false
+isRead Read = true
+isRead CannotRead = false
+isRead CannotWrite = false
+
+-- at the start, when so many bytes have been read
+abbrev pub started : ℕ → State
+started have = record { table = replicate 64 unused; records = 0; from = 0; have = have; stage = Going }
+
+-- ---- One turn
 
 -- the bytes that are not listed yet, as a chunk, with the state's table and count and an output of so many bytes
 abbrev pub listed : List ℕ → State → ℕ → ChunkWalk Said Table
@@ -30,3 +60,20 @@ pub record Turned (input d : List ℕ) (s r : State) (input′ d′ : List ℕ) 
   pub left : (let rest = listed input s (length d) .rest in take (length rest) (between (r .from) (r .have) input′) ≡ rest)
   pub size : length input′ ≡ length input
   pub places : InPlace input′ r
+  -- all has been read once there was no whole record left, and nothing more came
+  pub ended : isRead (r .stage) ≡ true
+      → (let rest = listed input s (length d) .rest in (length rest ≡ s .have - s .from) × (between (r .from) (r .have) input′ ≡ rest))
+
+-- ---- All of them
+
+-- the state and the input hold a capture that came in chunks: the count and the table are theirs, and what they leave stands in the input, in
+-- front of what came later
+pub record Listing (input : List ℕ) (s : State) : Type 0 where
+  pub chunks : List LentChunk
+  pub later : List ℕ
+  pub held : between (s .from) (s .have) input ≡ listChunks unlisted chunks .rest ++ later
+  pub records : s .records ≡ listChunks unlisted chunks .records
+  pub table : s .table ≡ listChunks unlisted chunks .table
+  -- once all has been read, the lines of the chunks are the capture's listing, between its first line and the ending
+  pub whole : isRead (s .stage) ≡ true
+      → ListedAs (captureOf chunks) (startLine ++ (listChunks unlisted chunks .text ++ ending (ltb 0 (s .have - s .from)) (s .records))) (s .table)

@@ -17,7 +17,8 @@ use stream::Record;
 ghost use mathlib.Core.Path.{_≡_};
 ghost use Prim.Native.Nat.{_≤_};
 ghost use lib.ListN.{length};
-ghost use Rattle.avtp_list.specs.Turns.{InPlace, Turned};
+ghost use Rattle.lines.specs.Placing.{lineRoom};
+ghost use Rattle.avtp_list.specs.Turns.{stageBy, started, InPlace, Turned, Listing};
 
 // Where a listing stands.
 enum Stage {
@@ -46,7 +47,9 @@ fn is_going(stage: Stage) -> bool {
 }
 
 // There is more to list, or all has been read, or it cannot be.
-fn stage_of(source: Source) -> Stage {
+fn stage_of(source: Source) -> Stage
+    ensures { λ r. ⌜ r ≡ stageBy source ⌝ }
+{
     match source {
         Source::Open => Stage::Going,
         Source::Ended => Stage::Read,
@@ -123,7 +126,7 @@ fn write_ending(out: &mut [u8], records: u64, left: usize) -> bool {
 }
 
 fn start(have: usize) -> State
-    ensures { λ r. ⌜ (r .from ≡ 0) × (r .have ≡ have) ⌝ }
+    ensures { λ r. ⌜ r ≡ started have ⌝ }
 {
     State {
         table: table::unused_table(),
@@ -137,8 +140,8 @@ fn start(have: usize) -> State
 // The records of a capture of which so many bytes have been read. A proved loop has to end, so the turns are counted down from a number
 // that no run uses up.
 fn list_records(fd: i32, input: &mut [u8], have: usize, out: &mut [u8]) -> State
-    requires { ⌜ have ≤ length (now input) ⌝ }
-    ensures { λ r. ⌜ r .from ≤ r .have ⌝ }
+    requires { ⌜ (have ≤ length (now input)) × (lineRoom ≤ length (now out)) ⌝ }
+    ensures { λ r. ⌜ (r .from ≤ r .have) × Listing (now (input .exit)) r ⌝ }
 {
     let mut s = start(have);
     let mut shown = progress::start();

@@ -162,6 +162,19 @@ module _ {O S : Type 0} (step : S → List ℕ → Held → O × S) where
       let w : length (walkChunkFrom step k ready (a .0 ∷ []) (drop size left) (a .1) .rest) ≡ length left = rw (b, e) at z in
       omega arith
 
+  nothing-used : (ready : List O → Bool) (left : List ℕ) (s : S) → ready [] ≡ true → length (walkChunk step ready left s .rest) ≡ length left → walkChunk step ready left s ≡ stop ready [] left s
+  unfolding walkChunk walkChunkFrom
+  nothing-used ready left s b z = by-front (entryOf left) refl
+    where
+      stopped : (k : ℕ) (f : Front) → entryOf left ≡ f → ((size : ℕ) (held : Held) → f ≡ whole size held → ⊥) → walkChunkFrom step k ready [] left s ≡ stop ready [] left s
+      stopped zero f e h = refl
+      stopped (suc k) end e h = rw (b, e)
+      stopped (suc k) cut e h = rw (b, e)
+      stopped (suc k) (whole size held) e h = absurd (h size held refl)
+
+      by-front : (f : Front) → entryOf left ≡ f → walkChunkFrom step (length left) ready [] left s ≡ stop ready [] left s
+      by-front f e = stopped (length left) f e (λ size held q. used-some ready left s size held (e ∙ q) b (length left) refl z)
+
   at-the-end : (ready : List O → Bool) (left : List ℕ) (s : S) → ready [] ≡ true → length (walkChunk step ready left s .rest) ≡ length left → walk step left s ≡ walkEnd step left s
   unfolding walk walkFrom walkChunk
   at-the-end ready left s b z = by-front (entryOf left) refl
@@ -204,6 +217,7 @@ module _ {O S : Type 0} (step : S → List ℕ → Held → O × S) where
         more-to-come = more-to-come;
         left-within = λ ready chunk s. left-over ready chunk s .0;
         left-over = λ ready chunk s. left-over ready chunk s .1;
+        nothing-used = nothing-used;
         at-the-end = at-the-end;
         every-record = every-record;
         every-whole-record = every-whole-record;

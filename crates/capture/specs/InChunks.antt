@@ -57,7 +57,10 @@ pub record InChunks {O S : Type 0} (step : S → List ℕ → Held → O × S) :
   pub left-within : (ready : List O → Bool) (chunk : List ℕ) (s : S) → length (walkChunk step ready chunk s .rest) ≤ length chunk
   pub left-over : (ready : List O → Bool) (chunk : List ℕ) (s : S)
       → (let p = walkChunk step ready chunk s in drop (length chunk - length (p .rest)) chunk ≡ p .rest)
-  -- where nothing more comes, and there was room but nothing was used
+  -- where there was room but nothing was used, nothing is said and the state is as it was
+  pub nothing-used : (ready : List O → Bool) (left : List ℕ) (s : S) → ready [] ≡ true → length (walkChunk step ready left s .rest) ≡ length left
+      → walkChunk step ready left s ≡ record { said = []; rest = left; state = s }
+  -- and where nothing more comes
   pub at-the-end : (ready : List O → Bool) (left : List ℕ) (s : S) → ready [] ≡ true → length (walkChunk step ready left s .rest) ≡ length left
       → walk step left s ≡ walkEnd step left s
   -- the bounds on the records leave none out: where there may be more, nothing changes

@@ -1,15 +1,35 @@
-use Prim.Native.Nat.{_≤_}
-use mathlib.Core.Path.{_≡_}
-use lib.ListN.{length}
+use mathlib.Core.Path.{_≡_, refl, ap, _∙_}
+use native.Mathlib.Omega.{arith}
 use borrow.Author.Needs.{needs}
+use denote.Ref.{now}
+use lib.ListN.{length}
+use Rattle.avtp_list.specs.Turns.{InPlace, Listing}
+use Rattle.avtp_list.proofs.Listed.{out-size, at-start, after-turn}
 use Rattle.avtp_list.proofs.list_records.Statement.{statement}
 use Rattle.avtp_list.proofs.list_records.Tie as tie
 
 abbrev Inv-loop : tie.InvT-loop
-Inv-loop fd input₀ have out₀ s₀ shown₀ going₀ turns₀ input out s shown going turns = (s .from ≤ s .have) × (s .have ≤ length input) × (length input ≡ length input₀) × (length out ≡ length out₀)
+Inv-loop fd input₀ have out₀ s₀ shown₀ going₀ turns₀ input out s shown going turns = InPlace input s × (length input ≡ length input₀) × (length out ≡ length out₀) × Listing input s
 
 abbrev μ-loop : tie.MeasureT-loop
 μ-loop fd input₀ have out₀ s₀ shown₀ going₀ turns₀ input out s shown going turns = turns
+
+loop-holds : tie.Need-loop-holds Inv-loop μ-loop
+loop-holds c =
+    let a = c .before .before .before .before in
+    let p = at-start (now (a .args .input)) (a .args .have) (c .before .start .ensures) (a .pre .0) in
+    (p .0, refl, refl, p .1)
+
+loop-again : tie.Need-loop-again Inv-loop μ-loop
+loop-again c =
+    let turned = c .before .before .before .before .before in
+    let l = turned .before .before .before .before .before .before .loop in
+    let pre = turned .before .before .before .before .before .before .before .before .before .before .before .pre in
+    let t = turned .turn .ensures in
+    (t .places, t .size ∙ l .inv .1, out-size t ∙ l .inv .2, after-turn (l .input) (l .out) (l .s) _ _ _ (l .inv .0) (omega (arith, l .inv .2, pre .1)) (l .inv .3) t)
+
+returns : tie.Need-returns Inv-loop μ-loop
+returns c = let inv = c .before .before .loop .inv in (inv .0 .0, inv .3)
 
 pub list-records-spec : {M : Type 1} → statement M
 list-records-spec =
@@ -19,14 +39,14 @@ list-records-spec =
     μ-loop
     (λ c κs. search needs)
     (λ c κs. search needs)
-    (λ c. search needs)
+    loop-holds
     (λ c κs. search needs)
     (λ c κs. search needs)
     (λ c κs. search needs)
     (λ c. search needs)
     (λ c. search needs)
-    (λ c. search needs)
+    loop-again
     (λ c κs. search needs)
     (λ c. search needs)
     (λ c. search needs)
-    (λ c. search needs))
+    returns)

@@ -1,0 +1,116 @@
+-- All turns together: what is listed is the capture that came. Assumes nothing.
+use Prim.Native.Nat.{ℕ, _+_, _-_, _≤_}
+use mathlib.Core.Path.{_≡_, refl, sym, ap, _∙_, subst}
+use mathlib.Core.Bool.{true, false}
+use mathlib.Core.List.{List, [], _∷_, _++_}
+use native.Mathlib.Omega.{arith}
+use borrow.Author.Tests.{le-leb}
+use lib.Dec.{T, ltb}
+use lib.ListN.{length, take, drop, take-append-drop}
+use lib.Seq.{length-sets}
+use Rattle.capture.specs.Walk.{ChunkWalk}
+use Rattle.table.specs.Table.{Table}
+use Rattle.lines.specs.Lines.{startLine, ending}
+use Rattle.lines.specs.Placing.{lineRoom, roomy}
+use Rattle.program.specs.Input.{between}
+use Rattle.listing.specs.Listing.{Said, linesAfter, numberAfter}
+use Rattle.listing.specs.Chunks.{chunked}
+use Rattle.listing.specs.InChunks.{LentChunk, captureOf, Run, unlisted, listChunk, listChunks, ListedAs}
+use Rattle.listing.proofs.InChunks.{in-chunks}
+use Rattle.avtp_list.specs.declared.State.{State}
+use Rattle.avtp_list.proofs.Turning.{many}
+use Rattle.avtp_list.specs.Turns.{started, isRead, listed, InPlace, Turned, Listing}
+
+one-more : (r : Run) (cs : List LentChunk) (c : LentChunk) → listChunks r (cs ++ (c ∷ [])) ≡ listChunk (listChunks r cs) c
+unfolding listChunks
+one-more r [] c = refl
+one-more r (x ∷ cs) c = one-more (listChunk r x) cs c
+
+nothing-used : (chunk : List ℕ) (t : Table) (n room : ℕ) → roomy room 0 ≡ true → length (chunked chunk t n room .rest) ≡ length chunk
+    → chunked chunk t n room ≡ record { said = []; rest = chunk; state = t }
+unfolding chunked linesAfter
+nothing-used chunk t n room fits z = in-chunks .walked .nothing-used _ chunk t fits z
+
+same-listing : (capture text : List ℕ) {k k′ m m′ : ℕ} {t t′ : Table} → k ≡ k′ → m ≡ m′ → t ≡ t′
+    → ListedAs capture (startLine ++ (text ++ ending (ltb 0 k) m)) t → ListedAs capture (startLine ++ (text ++ ending (ltb 0 k′) m′)) t′
+same-listing capture text e f g p = rw (sym e, sym f, sym g) p
+
+-- the output keeps its size
+pub out-size : {input d : List ℕ} {s r : State} {input′ d′ : List ℕ} → Turned input d s r input′ d′ → length d′ ≡ length d
+out-size {input} {d} {s} t = ap length (t .lines) ∙ length-sets d 0 (linesAfter (s .records) (listed input s (length d) .said))
+
+-- nothing has been listed yet
+pub at-start : (input : List ℕ) (have : ℕ) {s : State} → s ≡ started have → have ≤ length input → InPlace input s × Listing input s
+unfolding listChunks
+at-start input have e h =
+    rw e (
+      (omega arith, h),
+      record {
+        chunks = [];
+        later = between 0 have input;
+        held = refl;
+        records = refl;
+        table = refl;
+        whole = λ e. absurd (subst T (sym e) tt);
+      },
+    )
+
+module _ (input d : List ℕ) (s r : State) (input′ d′ : List ℕ) (h : InPlace input s) (room : lineRoom ≤ length d)
+    (so-far : Listing input s) (turned : Turned input d s r input′ d′) where
+  abbrev before : Run
+  before = listChunks unlisted (so-far .chunks)
+
+  abbrev chunk : LentChunk
+  chunk = record { bytes = so-far .later; room = length d }
+
+  abbrev after : Run
+  after = listChunks unlisted (so-far .chunks ++ (chunk ∷ []))
+
+  abbrev now-listed : ChunkWalk Said Table
+  now-listed = listed input s (length d)
+
+  as-chunk : now-listed ≡ chunked (before .rest ++ so-far .later) (before .table) (before .records) (length d)
+  as-chunk i = chunked (so-far .held i) (so-far .table i) (so-far .records i) (length d)
+
+  rest-after : now-listed .rest ≡ after .rest
+  unfolding listChunk
+  rest-after = ap (λ (w : ChunkWalk Said Table). w .rest) as-chunk ∙ sym (ap (λ (x : Run). x .rest) (one-more unlisted (so-far .chunks) chunk))
+
+  table-after : now-listed .state ≡ after .table
+  unfolding listChunk
+  table-after = ap (λ (w : ChunkWalk Said Table). w .state) as-chunk ∙ sym (ap (λ (x : Run). x .table) (one-more unlisted (so-far .chunks) chunk))
+
+  records-after : numberAfter (s .records) (now-listed .said) ≡ after .records
+  unfolding listChunk
+  records-after = (λ i. numberAfter (so-far .records i) (as-chunk i .said)) ∙ sym (ap (λ (x : Run). x .records) (one-more unlisted (so-far .chunks) chunk))
+
+  fits : roomy (length d) 0 ≡ true
+  fits = le-leb (0 + lineRoom) (length d) (omega arith)
+
+  all-listed : isRead (r .stage) ≡ true
+      → ListedAs (captureOf (so-far .chunks ++ (chunk ∷ []))) (startLine ++ (after .text ++ ending (ltb 0 (r .have - r .from)) (r .records))) (r .table)
+  unfolding numberAfter
+  all-listed e =
+      let ended = turned .ended e in
+      let idle = nothing-used (between (s .from) (s .have) input) (s .table) (s .records) (length d) fits (ended .0 ∙ sym (many input s h)) in
+      let rest : after .rest ≡ between (s .from) (s .have) input = sym rest-after ∙ ap (λ (w : ChunkWalk Said Table). w .rest) idle in
+      let table : after .table ≡ s .table = sym table-after ∙ ap (λ (w : ChunkWalk Said Table). w .state) idle in
+      let records : after .records ≡ s .records = sym records-after ∙ ap (λ (w : ChunkWalk Said Table). numberAfter (s .records) (w .said)) idle in
+      let again : length (chunked (after .rest) (after .table) (after .records) (length d) .rest) ≡ length (after .rest) =
+      (λ i. length (chunked (rest i) (table i) (records i) (length d) .rest)) ∙ ap (λ (w : ChunkWalk Said Table). length (w .rest)) idle ∙ ap length (sym rest) in
+      let left : length (after .rest) ≡ r .have - r .from = ap length (sym rest-after ∙ sym (ended .1)) ∙ many input′ r (turned .places) in
+      same-listing (captureOf (so-far .chunks ++ (chunk ∷ []))) (after .text) left (sym (turned .records ∙ records-after)) (sym (turned .table ∙ table-after))
+      (in-chunks .whole-capture (so-far .chunks ++ (chunk ∷ [])) (length d) fits again)
+
+  -- a turn lists one chunk more
+  pub after-turn : Listing input′ r
+  after-turn =
+      let here = between (r .from) (r .have) input′ in
+      record {
+        chunks = so-far .chunks ++ (chunk ∷ []);
+        later = drop (length (now-listed .rest)) here;
+        held = sym (take-append-drop (length (now-listed .rest)) here) ∙ ap (λ (x : List ℕ). x ++ drop (length (now-listed .rest)) here) (turned .left ∙ rest-after);
+        records = turned .records ∙ records-after;
+        table = turned .table ∙ table-after;
+        whole = all-listed;
+      }
