@@ -37,7 +37,7 @@ one-more k n true e h = rw (decimal-small n (ltb-true n 10 e)) (omega arith)
 one-more k n false e h = omega (arith, decimal-large-length n (ltb-false n 10 e))
 
 -- a number below a power of ten has no more digits than its exponent
-below-power : (k n : ℕ) → n < 10 ^ suc k → length (decimal n) ≤ suc k
+pub below-power : (k n : ℕ) → n < 10 ^ suc k → length (decimal n) ≤ suc k
 below-power zero n h = rw (decimal-small n h) (omega arith)
 below-power (suc k) n h =
     let g : n < 10 ^ suc k * 10 = rw pow-suc at h in
@@ -72,3 +72,12 @@ pub four-length : (n : ℕ) → 10000 ≤ n → length (decimal n) ≡ length (d
 four-length n h =
     let e : n / 100 / 100 ≡ n / 10000 = omega arith in
     rw (← e) (omega (arith, pair-length n (omega arith), pair-length (n / 100) (omega arith)))
+
+pub decimal-four : (n : ℕ) → 10000 ≤ n → decimal n ≡ decimal (n / 10000) ++ ((48 + n % 10000 / 1000) ∷ (48 + n % 10000 / 100 % 10) ∷ (48 + n % 10000 / 10 % 10) ∷ (48 + n % 10000 % 10) ∷ [])
+decimal-four n h =
+    let e : n / 100 / 100 ≡ n / 10000 = omega arith in
+    let a : n / 100 % 100 / 10 ≡ n % 10000 / 1000 = omega arith in
+    let b : n / 100 % 100 % 10 ≡ n % 10000 / 100 % 10 = omega arith in
+    let c : n % 100 / 10 ≡ n % 10000 / 10 % 10 = omega arith in
+    let d : n % 100 % 10 ≡ n % 10000 % 10 = omega arith in
+    rw (decimal-pair n (omega arith), decimal-pair (n / 100) (omega arith), e, a, b, c, d) (append-assoc (decimal (n / 10000)) ((48 + n % 10000 / 1000) ∷ (48 + n % 10000 / 100 % 10) ∷ []) ((48 + n % 10000 / 10 % 10) ∷ (48 + n % 10000 % 10) ∷ []))

@@ -1,4 +1,5 @@
 pub mod Decimals
+pub mod FourDigits
 pub mod Signs
 pub mod Sets
 pub mod Puts

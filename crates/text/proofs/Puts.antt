@@ -92,6 +92,10 @@ module _ {d d₁ s : List ℕ} {at m : ℕ} where
         stored = λ h. (p .room h, p .buffer ∙ rw (le-leb (at + length s) (length d) (omega (arith, p .room h))));
       }
 
+  -- a call's text where it is known to have room
+  pub put-where-room : Put d at s d₁ m → at + length s ≤ length d → (m ≡ at + length s) × (d₁ ≡ sets d at s)
+  put-where-room p h = alone p .stored (omega (arith, p .place, after-below at s))
+
   -- and then another
   pub more : {d₂ t : List ℕ} {r : ℕ} → PutInTurn d at s d₁ m → PutInTurn d₁ m t d₂ r → PutInTurn d at (s ++ t) d₂ r
   more {d₂} {t} {r} p q =

@@ -13,6 +13,10 @@ sets-append [] t d i = ap (λ (k : ℕ). sets d k t) (sym (add-zero i))
 sets-append (a ∷ s) t d i =
     sets-append s t (set d i a) (suc i) ∙ ap (λ (k : ℕ). sets (sets (set d i a) (suc i) s) k t) (suc-add i (length s) ∙ sym (add-suc i (length s)))
 
+-- a text of which the front is put first
+pub front-first : (s t all d : List ℕ) (i : ℕ) → all ≡ s ++ t → sets (sets d i s) (i + length s) t ≡ sets d i all
+front-first s t all d i e = rw e (sym (sets-append s t d i))
+
 -- a turn of the loop that puts a text
 pub sets-more : (d : List ℕ) (i : ℕ) (s : List ℕ) (j : ℕ) → j < length s → set (sets d i (take j s)) (i + j) (getD s j 0) ≡ sets d i (take (j + 1) s)
 sets-more d i s j h =

@@ -1,7 +1,7 @@
 // Text put into a buffer at a place. Each call answers the place after the text: the text was put where that place is in the buffer,
 // and where it is past the buffer's end the buffer is as it was. A place that no number of 64 bits holds is answered as the largest.
 ghost use mathlib.Core.Path.{_≡_};
-ghost use Prim.Native.Nat.{_+_, _/_, _%_, _≤_, _<_};
+ghost use Prim.Native.Nat.{_+_, _*_, _/_, _%_, _≤_, _<_};
 ghost use mathlib.Core.List.{[], _∷_};
 ghost use lib.Dec.{leb};
 ghost use lib.IntN.{natAbs};
@@ -108,7 +108,71 @@ fn put_digits(out: &mut [u8], at: usize, end: usize, n: u64)
     }
 }
 
-pub fn put_decimal(out: &mut [u8], at: usize, n: u64) -> usize
+// Four digits, also where the first are zeros, as one number: the first digit is its lowest byte. A pair p with t tens is the bytes t and
+// p - 10 t, that is 256 p - 2559 t, here for both pairs at once. Quotients by 100 and by 10 are taken by a product and a shift, which does
+// for numbers as small as these.
+fn four_digits(n: u64) -> u64
+    requires { ⌜ n < 10000 ⌝ }
+    ensures { λ r. ⌜ r ≡ 48 + n / 1000 + 256 * (48 + n / 100 % 10) + 65536 * (48 + n / 10 % 10) + 16777216 * (48 + n % 10) ⌝ }
+{
+    let high = n * 5_243 / 524_288;
+    let low = n - high * 100;
+    let tens = high * 103 / 1_024 + low * 103 / 1_024 * 65_536;
+    let both = high + low * 65_536;
+    0x3030_3030 + both * 256 - tens * 2_559
+}
+
+// The compiler makes one store of the four.
+fn put_four(out: &mut [u8], at: usize, n: u64)
+    requires { ⌜ (at + 4 ≤ length (now out)) × (n < 10000) ⌝ }
+    ensures { λ _. ⌜ now (out .exit) ≡ sets (now (out .entry)) at ((48 + n / 1000) ∷ (48 + n / 100 % 10) ∷ (48 + n / 10 % 10) ∷ (48 + n % 10) ∷ []) ⌝ }
+{
+    let text = four_digits(n);
+    out[at] = (text % 256) as u8;
+    out[at + 1] = (text / 256 % 256) as u8;
+    out[at + 2] = (text / 65_536 % 256) as u8;
+    out[at + 3] = (text / 16_777_216 % 256) as u8;
+}
+
+// A number below a hundred, and the place after it.
+fn put_up_to_two(out: &mut [u8], at: usize, n: u64) -> usize
+    requires { ⌜ (at + 2 ≤ length (now out)) × (n < 100) ⌝ }
+    ensures { λ r. ⌜ (now (out .exit) ≡ sets (now (out .entry)) at (decimal n)) × (r ≡ at + length (decimal n)) ⌝ }
+{
+    if n < 10 {
+        out[at] = digit(n);
+        return at + 1;
+    }
+    put_pair(out, at, n);
+    at + 2
+}
+
+fn put_up_to_four(out: &mut [u8], at: usize, n: u64) -> usize
+    requires { ⌜ (at + 4 ≤ length (now out)) × (n < 10000) ⌝ }
+    ensures { λ r. ⌜ (now (out .exit) ≡ sets (now (out .entry)) at (decimal n)) × (r ≡ at + length (decimal n)) ⌝ }
+{
+    if n < 100 {
+        return put_up_to_two(out, at, n);
+    }
+    let next = put_up_to_two(out, at, n / 100);
+    put_pair(out, next, n % 100);
+    next + 2
+}
+
+fn put_up_to_eight(out: &mut [u8], at: usize, n: u64) -> usize
+    requires { ⌜ (at + 8 ≤ length (now out)) × (n < 100000000) ⌝ }
+    ensures { λ r. ⌜ (now (out .exit) ≡ sets (now (out .entry)) at (decimal n)) × (r ≡ at + length (decimal n)) ⌝ }
+{
+    if n < 10_000 {
+        return put_up_to_four(out, at, n);
+    }
+    let next = put_up_to_four(out, at, n / 10_000);
+    put_four(out, next, n % 10_000);
+    next + 4
+}
+
+// Any number, wherever it may stand: its digits are counted first.
+fn put_counted(out: &mut [u8], at: usize, n: u64) -> usize
     ensures { λ r. ⌜ Put (now (out .entry)) at (decimal n) (now (out .exit)) r ⌝ }
 {
     let count = count_digits(n);
@@ -118,6 +182,18 @@ pub fn put_decimal(out: &mut [u8], at: usize, n: u64) -> usize
     let end = at + count;
     put_digits(out, at, end, n);
     end
+}
+
+// A number of up to eight digits is put from its front, without counting them, where there is room for eight.
+pub fn put_decimal(out: &mut [u8], at: usize, n: u64) -> usize
+    ensures { λ r. ⌜ Put (now (out .entry)) at (decimal n) (now (out .exit)) r ⌝ }
+{
+    if n < 100_000_000 {
+        if has_room(out.len(), at, 8) {
+            return put_up_to_eight(out, at, n);
+        }
+    }
+    put_counted(out, at, n)
 }
 
 // How far a number is from zero.
@@ -140,10 +216,8 @@ fn put_negative(out: &mut [u8], at: usize, n: u64) -> usize
     if !has_room(out.len(), at, size) {
         return place_after(at, size);
     }
-    let end = at + size;
     out[at] = b'-';
-    put_digits(out, at + 1, end, n);
-    end
+    put_decimal(out, at + 1, n)
 }
 
 pub fn put_signed(out: &mut [u8], at: usize, z: i64) -> usize

@@ -9,7 +9,7 @@ use denote.Ref.{now}
 use Rattle.text.specs.Text.{decimal}
 use Rattle.text.specs.Putting.{saturated}
 use Rattle.text.proofs.Decimals.{decimal-length}
-use Rattle.text.proofs.Puts.{has-room, lacks-room, put-there, not-put}
+use Rattle.text.proofs.Puts.{has-room, lacks-room, put-there, not-put, put-where-room}
 use Rattle.text.proofs.put_negative.Statement.{statement}
 use Rattle.text.proofs.put_negative.Tie as tie
 
@@ -34,18 +34,16 @@ fits c =
     let a = c .before .before .before .before .args in
     has-room (a .at + (1 + c .before .before .count-digits .result)) (length (now (a .out))) (c .before .has-room .ensures) (c .if1 .left)
 
-put-digits-requires : tie.Need-put-digits-requires
-put-digits-requires c κs = (omega (arith, c .before .before .before .count-digits .ensures), simp length-set (omega (arith, fits (c .before))))
-
 same-length : tie.Need-same-length
-same-length c = c .before .before .put-digits .kept .0 ∙ simp length-set
+same-length c = c .before .before .put-decimal .kept .0 ∙ simp length-set
 
 returns-2 : tie.Need-returns-2
 returns-2 c =
     let done = c .before .before in
     let asked = done .before .before in
     let s = size (asked .before .before) in
-    put-there (omega arith) (omega (arith, fits asked, s)) (done .put-digits .ensures ∙ rw add-one) (omega (arith, s))
+    let there = put-where-room (done .put-decimal .ensures) (simp length-set (omega (arith, fits asked, s))) in
+    put-there (omega arith) (omega (arith, fits asked, s)) (there .1 ∙ rw add-one) (omega (arith, there .0))
 
 pub put-negative-spec : {M : Type 1} → statement M
 put-negative-spec =
@@ -57,8 +55,7 @@ put-negative-spec =
     (λ c κs. search needs)
     returns
     (λ c. omega (arith, fits c))
-    (λ c. omega (arith, fits c))
     (λ c. omega (arith, fits (c .before)))
-    put-digits-requires
+    (λ c κs. search needs)
     same-length
     returns-2)
