@@ -39,7 +39,7 @@ fn put_each_flag(out: &mut [u8], at: usize, flags: Flags) -> usize
 fn put_flags(out: &mut [u8], at: usize, flags: Flags) -> usize
     ensures { λ r. ⌜ PutInTurn (now (out .entry)) at (flagsText flags) (now (out .exit)) r ⌝ }
 {
-    if flags.sequence | flags.block | flags.format | flags.mr {
+    if flags.sequence || flags.block || flags.format || flags.mr {
         return put_each_flag(out, at, flags);
     }
     text::put(out, at, b" frame seq=ok dbc=ok fmt=ok mr=ok")
