@@ -135,12 +135,19 @@ fn raise_flags(last: Record, fields: Fields) -> Flags
 {
     let avtp = fields.header.avtp;
     let cip = fields.cip;
-    let seen = last.seen;
+    if !last.seen {
+        return Flags {
+            sequence: false,
+            block: false,
+            format: false,
+            mr: false,
+        };
+    }
     Flags {
-        sequence: seen & sequence_break(last.sequence, avtp.sequence),
-        block: seen & (cip.dbc != last.next_dbc),
-        format: seen & format_change(last.format, format_of(cip)),
-        mr: seen & (avtp.mr != last.mr),
+        sequence: sequence_break(last.sequence, avtp.sequence),
+        block: cip.dbc != last.next_dbc,
+        format: format_change(last.format, format_of(cip)),
+        mr: avtp.mr != last.mr,
     }
 }
 
@@ -163,16 +170,19 @@ fn bump(raised: bool, count: u32) -> u32
     count
 }
 
+// Most frames raise no flag, and then only the frames are counted.
 fn count_frame(counts: Counts, raised: Flags) -> Counts
     ensures { λ r. ⌜ r ≡ countsAfter counts raised ⌝ }
 {
-    Counts {
-        frames: bump(true, counts.frames),
-        sequence_breaks: bump(raised.sequence, counts.sequence_breaks),
-        block_breaks: bump(raised.block, counts.block_breaks),
-        format_changes: bump(raised.format, counts.format_changes),
-        mr_changes: bump(raised.mr, counts.mr_changes),
+    let mut after = counts;
+    after.frames = bump(true, counts.frames);
+    if raised.sequence || raised.block || raised.format || raised.mr {
+        after.sequence_breaks = bump(raised.sequence, counts.sequence_breaks);
+        after.block_breaks = bump(raised.block, counts.block_breaks);
+        after.format_changes = bump(raised.format, counts.format_changes);
+        after.mr_changes = bump(raised.mr, counts.mr_changes);
     }
+    after
 }
 
 fn update(last: Record, fields: Fields, payload: &[u8], raised: Flags) -> Record
