@@ -184,7 +184,7 @@ fn list(fd: i32, name: &[u8], told: bool) -> bool {
     let first = input::first(fd, &mut input, 4);
     let source = first.source;
     let have = first.end;
-    if has_failed(source) {
+    if input::has_failed(source) {
         messages::fail(b"avtp_list", name);
         return true;
     }
@@ -199,20 +199,8 @@ fn list(fd: i32, name: &[u8], told: bool) -> bool {
     finish(name, &mut out, s)
 }
 
-fn has_failed(source: Source) -> bool {
-    match source {
-        Source::Open => false,
-        Source::Ended => false,
-        Source::Failed => true,
-    }
-}
-
-fn is_dash(name: &[u8]) -> bool {
-    name.len() == 1 && name[0] == b'-'
-}
-
 fn list_named(name: &[u8], told: bool) -> bool {
-    if is_dash(name) {
+    if options::is_dash(name) {
         return list(STDIN_FILENO, b"standard input", told);
     }
     let fd = os::open_read(name);
@@ -248,10 +236,7 @@ fn list_names(request: Request, names: usize) {
 // No capture is named: standard input, unless that waits for keys.
 fn list_input() {
     if libc::isatty(STDIN_FILENO) == 1 {
-        io::write_all(
-            STDERR_FILENO,
-            b"usage: avtp_list [FILE..]\nTry avtp_list --help.\n",
-        );
+        help::show_usage();
         return;
     }
     list(STDIN_FILENO, b"standard input", false);

@@ -3,3 +3,4 @@ pub mod Names
 pub mod Reading
 pub mod Arguments
 pub mod Printable
+pub mod Choices

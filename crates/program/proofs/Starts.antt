@@ -12,6 +12,7 @@ use lib.Seq.{drop-cons}
 use Rattle.program.specs.Words.{startsWith}
 
 pub too-short : (text bytes : List ℕ) → length bytes < length text → startsWith text bytes ≡ false
+unfolding startsWith
 too-short [] bytes h = absurd (omega arith)
 too-short (a ∷ text) [] h = refl
 too-short (a ∷ text) (b ∷ bytes) h = go (eqb b a) (too-short text bytes (omega arith))
@@ -23,6 +24,7 @@ too-short (a ∷ text) (b ∷ bytes) h = go (eqb b a) (too-short text bytes (ome
 -- what is left from a place on starts with what is left of the text, by the byte there
 module _ (text bytes : List ℕ) (i : ℕ) (t : i < length text) (b : i < length bytes) where
   here : startsWith (drop i text) (drop i bytes) ≡ cond (eqb (getD bytes i 0) (getD text i 0)) (startsWith (drop (i + 1) text) (drop (i + 1) bytes)) false
+  unfolding startsWith
   here = rw (drop-cons text i 0 t, drop-cons bytes i 0 b, add-one)
 
   pub differs : (getD bytes i 0 ≡ getD text i 0 → ⊥) → startsWith (drop i text) (drop i bytes) ≡ false
@@ -32,4 +34,5 @@ module _ (text bytes : List ℕ) (i : ℕ) (t : i < length text) (b : i < length
   agrees e = here ∙ rw (eq-eqb (getD bytes i 0) (getD text i 0) e)
 
 pub all-agree : (text bytes : List ℕ) (i : ℕ) → length text ≤ i → startsWith (drop i text) (drop i bytes) ≡ true
+unfolding startsWith
 all-agree text bytes i h = rw (drop-of-length-le text h)

@@ -15,6 +15,11 @@ isOpen Open = true
 isOpen Ended = false
 isOpen Failed = false
 
+abbrev pub hasFailed : Source → Bool
+hasFailed Open = false
+hasFailed Ended = false
+hasFailed Failed = true
+
 -- the bytes between two places, as far as the buffer has them
 abbrev pub between : ℕ → ℕ → List ℕ → List ℕ
 between from have d = part from (have - from) d

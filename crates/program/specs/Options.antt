@@ -3,8 +3,6 @@ use Prim.Native.Nat.{ℕ, suc, _-_}
 use mathlib.Core.Path.{_≡_}
 use mathlib.Core.Bool.{Bool, true, false, cond}
 use mathlib.Core.List.{List, [], _∷_}
-use lib.Dec.{ltb}
-use lib.ListN.{length}
 use Rattle.text.specs.Text.{ascii}
 use Rattle.program.specs.Words.{startsWith, same}
 use Rattle.program.specs.declared.options.Word.{Word}
@@ -13,21 +11,18 @@ use Rattle.program.specs.declared.options.Request.{Request}
 
 -- ---- one word
 
--- a dash and more is an option, or is meant as one
-abbrev pub dashed : List ℕ → Bool
-dashed w = cond (ltb (length w) 2) false (startsWith (ascii "-") w)
-
-abbrev pub option : List ℕ → Word
-option w =
+-- with a dash in front
+unfoldable pub optionOf : List ℕ → Word
+optionOf w =
     cond (same (ascii "--") w) Rest
     (cond (same (ascii "-h") w) Help
     (cond (same (ascii "--help") w) Help
     (cond (same (ascii "--version") w) Version
     Unknown)))
 
--- every other word is a name
+-- a dash alone is a name, as is every word with no dash in front
 unfoldable pub meaning : List ℕ → Word
-meaning w = cond (dashed w) (option w) Name
+meaning w = cond (same (ascii "-") w) Name (cond (startsWith (ascii "-") w) (optionOf w) Name)
 
 -- ---- all of them
 

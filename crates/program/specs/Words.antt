@@ -6,11 +6,11 @@ use lib.Dec.{eqb}
 use lib.ListN.{length}
 
 -- do the bytes start with this text?
-abbrev pub startsWith : List ℕ → List ℕ → Bool
+unfoldable pub startsWith : List ℕ → List ℕ → Bool
 startsWith [] bytes = true
 startsWith (a ∷ text) [] = false
 startsWith (a ∷ text) (b ∷ bytes) = cond (eqb b a) (startsWith text bytes) false
 
 -- are they this text, and no more?
-abbrev pub same : List ℕ → List ℕ → Bool
+unfoldable pub same : List ℕ → List ℕ → Bool
 same text bytes = cond (eqb (length bytes) (length text)) (startsWith text bytes) false

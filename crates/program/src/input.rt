@@ -5,7 +5,7 @@ ghost use mathlib.Core.Bool.{cond};
 ghost use lib.Dec.{leb, ltb};
 ghost use lib.ListN.{length, take};
 ghost use lib.Seq.{sets};
-ghost use Rattle.program.specs.Input.{isOpen, between, ReadBehind, First};
+ghost use Rattle.program.specs.Input.{isOpen, hasFailed, between, ReadBehind, First};
 
 // What became of the input.
 pub enum Source {
@@ -91,6 +91,7 @@ pub fn refill(fd: i32, input: &mut [u8], from: usize, have: usize) -> Filled
     fill(fd, input, left)
 }
 
+// May more come?
 fn is_open(source: Source) -> bool
     ensures { λ r. ⌜ r ≡ isOpen source ⌝ }
 {
@@ -98,6 +99,16 @@ fn is_open(source: Source) -> bool
         Source::Open => true,
         Source::Ended => false,
         Source::Failed => false,
+    }
+}
+
+pub fn has_failed(source: Source) -> bool
+    ensures { λ r. ⌜ r ≡ hasFailed source ⌝ }
+{
+    match source {
+        Source::Open => false,
+        Source::Ended => false,
+        Source::Failed => true,
     }
 }
 

@@ -4,7 +4,9 @@ use crate::words::same;
 use crate::words::starts_with;
 ghost use mathlib.Core.Path.{_≡_};
 ghost use Rattle.io.specs.Counts.{Counts};
-ghost use Rattle.program.specs.Options.{meaning, isName, Said, Requested, othersBy, namesOf};
+ghost use Rattle.text.specs.Text.{ascii};
+ghost use Rattle.program.specs.Words.{same as sameWord};
+ghost use Rattle.program.specs.Options.{optionOf, meaning, isName, Said, Requested, othersBy, namesOf};
 
 // What a word asks for.
 pub enum Word {
@@ -20,16 +22,10 @@ pub enum Word {
     Unknown,
 }
 
-// Which option a word is, if any.
-pub fn classify(bytes: &[u8]) -> Word
-    ensures { λ r. ⌜ r ≡ meaning (now (bytes .entry)) ⌝ }
+// Which option a word with a dash in front is.
+fn option(bytes: &[u8]) -> Word
+    ensures { λ r. ⌜ r ≡ optionOf (now (bytes .entry)) ⌝ }
 {
-    if bytes.len() < 2 {
-        return Word::Name;
-    }
-    if !starts_with(bytes, b"-") {
-        return Word::Name;
-    }
     if same(bytes, b"--") {
         return Word::Rest;
     }
@@ -43,6 +39,26 @@ pub fn classify(bytes: &[u8]) -> Word
         return Word::Version;
     }
     Word::Unknown
+}
+
+// A dash alone, which names standard input.
+pub fn is_dash(word: &[u8]) -> bool
+    ensures { λ r. ⌜ r ≡ sameWord (ascii "-") (now (word .entry)) ⌝ }
+{
+    same(word, b"-")
+}
+
+// What a word asks for.
+pub fn classify(bytes: &[u8]) -> Word
+    ensures { λ r. ⌜ r ≡ meaning (now (bytes .entry)) ⌝ }
+{
+    if is_dash(bytes) {
+        return Word::Name;
+    }
+    if starts_with(bytes, b"-") {
+        return option(bytes);
+    }
+    Word::Name
 }
 
 // What the arguments ask for together: the first of them that is no name, and its place. Where all are names, the place behind them.

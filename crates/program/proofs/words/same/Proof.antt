@@ -1,12 +1,15 @@
 use mathlib.Core.Path.{sym, _∙_}
 use borrow.Author.Tests.{eq-eqb, ne-eqb}
+use Rattle.program.specs.Words.{same as sameWord}
 use Rattle.program.proofs.words.same.Statement.{statement}
 use Rattle.program.proofs.words.same.Tie as tie
 
 returns : tie.Need-returns
+unfolding sameWord
 returns c = rw (ne-eqb _ _ (c .if1 .taken))
 
 returns-2 : tie.Need-returns-2
+unfolding sameWord
 returns-2 c = rw (eq-eqb _ _ (c .before .if1 .left)) (c .starts-with .ensures)
 
 pub same-spec : {M : Type 1} → statement M
