@@ -2,12 +2,12 @@
 use Prim.Native.Nat.{ℕ, _+_, _-_, _≤_}
 use mathlib.Core.Path.{_≡_, refl, sym, ap, _∙_, subst}
 use mathlib.Core.Bool.{true, false}
-use mathlib.Core.List.{List, [], _∷_, _++_}
+use mathlib.Core.List.{List, [], _∷_, _++_, append-nil, append-assoc}
 use native.Mathlib.Omega.{arith}
 use borrow.Author.Tests.{le-leb}
 use lib.Dec.{T, ltb}
 use lib.ListN.{length, take, drop, take-append-drop}
-use lib.Seq.{length-sets}
+use lib.Seq.{length-sets, drop-length}
 use Rattle.capture.specs.Walk.{ChunkWalk}
 use Rattle.table.specs.Table.{Table}
 use Rattle.lines.specs.Lines.{startLine, ending}
@@ -26,6 +26,11 @@ unfolding listChunks
 one-more r [] c = refl
 one-more r (x ∷ cs) c = one-more (listChunk r x) cs c
 
+capture-more : (cs : List LentChunk) (c : LentChunk) → captureOf (cs ++ (c ∷ [])) ≡ captureOf cs ++ c .bytes
+unfolding captureOf
+capture-more [] c = append-nil (c .bytes)
+capture-more (x ∷ cs) c = ap (λ (l : List ℕ). x .bytes ++ l) (capture-more cs c) ∙ sym (append-assoc (x .bytes) (captureOf cs) (c .bytes))
+
 nothing-used : (chunk : List ℕ) (t : Table) (n room : ℕ) → roomy room 0 ≡ true → length (chunked chunk t n room .rest) ≡ length chunk
     → chunked chunk t n room ≡ record { said = []; rest = chunk; state = t }
 unfolding chunked linesAfter
@@ -40,8 +45,8 @@ pub out-size : {input d : List ℕ} {s r : State} {input′ d′ : List ℕ} →
 out-size {input} {d} {s} t = ap length (t .lines) ∙ length-sets d 0 (linesAfter (s .records) (listed input s (length d) .said))
 
 -- nothing has been listed yet
-pub at-start : (input : List ℕ) (have : ℕ) {s : State} → s ≡ started have → have ≤ length input → InPlace input s × Listing input s
-unfolding listChunks
+pub at-start : (input : List ℕ) (have : ℕ) {s : State} → s ≡ started have → have ≤ length input → InPlace input s × Listing (take have input) input s
+unfolding listChunks captureOf
 at-start input have e h =
     rw e (
       (omega arith, h),
@@ -51,12 +56,15 @@ at-start input have e h =
         held = refl;
         records = refl;
         table = refl;
+        behind = [];
+        begun = (let n : have - 0 ≡ have = omega arith in ap (λ (k : ℕ). take k input) n) ∙ sym (append-nil (take have input));
+        all = λ e. absurd (subst T (sym e) tt);
         whole = λ e. absurd (subst T (sym e) tt);
       },
     )
 
-module _ (input d : List ℕ) (s r : State) (input′ d′ : List ℕ) (h : InPlace input s) (room : lineRoom ≤ length d)
-    (so-far : Listing input s) (turned : Turned input d s r input′ d′) where
+module _ (first input d : List ℕ) (s r : State) (input′ d′ : List ℕ) (h : InPlace input s) (room : lineRoom ≤ length d)
+    (so-far : Listing first input s) (turned : Turned input d s r input′ d′) where
   abbrev before : Run
   before = listChunks unlisted (so-far .chunks)
 
@@ -103,14 +111,18 @@ module _ (input d : List ℕ) (s r : State) (input′ d′ : List ℕ) (h : InPl
       (in-chunks .whole-capture (so-far .chunks ++ (chunk ∷ [])) (length d) fits again)
 
   -- a turn lists one chunk more
-  pub after-turn : Listing input′ r
+  pub after-turn : Listing first input′ r
   after-turn =
       let here = between (r .from) (r .have) input′ in
+      let new = drop (length (now-listed .rest)) here in
       record {
         chunks = so-far .chunks ++ (chunk ∷ []);
-        later = drop (length (now-listed .rest)) here;
-        held = sym (take-append-drop (length (now-listed .rest)) here) ∙ ap (λ (x : List ℕ). x ++ drop (length (now-listed .rest)) here) (turned .left ∙ rest-after);
+        later = new;
+        held = sym (take-append-drop (length (now-listed .rest)) here) ∙ ap (λ (x : List ℕ). x ++ new) (turned .left ∙ rest-after);
         records = turned .records ∙ records-after;
         table = turned .table ∙ table-after;
+        behind = so-far .behind ++ new;
+        begun = ap (λ (l : List ℕ). l ++ new) (capture-more (so-far .chunks) chunk ∙ so-far .begun) ∙ append-assoc first (so-far .behind) new;
+        all = λ e. ap (drop (length (now-listed .rest))) (turned .ended e .1) ∙ drop-length (now-listed .rest);
         whole = all-listed;
       }

@@ -45,10 +45,10 @@ grown {left} {r = r} p = go (isOpen (r .source)) refl
     go false e = omega (arith, p .shut e)
 
 -- where all has been read nothing more comes
-read-shut : (source : Source) → isRead (stageBy source) ≡ true → isOpen source ≡ false
-read-shut Open e = sym e
-read-shut Ended e = refl
-read-shut Failed e = refl
+shut-at-end : (source : Source) → isRead (stageBy source) ≡ true → isOpen source ≡ false
+shut-at-end Open e = sym e
+shut-at-end Ended e = refl
+shut-at-end Failed e = refl
 
 pub many : (input : List ℕ) (s : State) → InPlace input s → length (between (s .from) (s .have) input) ≡ s .have - s .from
 many input s h = length-take-le (s .have - s .from) (drop (s .from) input) (rw (length-drop (s .from) input) (omega (arith, h)))
@@ -73,6 +73,7 @@ module _ (input d : List ℕ) (s : State) where
           records = l .records;
           lines = l .out;
           left = ap (take (length rest)) (sym (behind-used input (s .from) (s .have) (p .at)) ∙ left) ∙ take-length rest;
+          unread = λ _. sym (behind-used input (s .from) (s .have) (p .at)) ∙ left;
           size = refl;
           places = (omega (arith, h, l .at-within, many input s h), h .1);
           ended = λ e. absurd (subst T (sym e ∙ going) tt);
@@ -89,10 +90,11 @@ module _ (input d : List ℕ) (s : State) where
           records = l .records;
           lines = l .out;
           left = ap (λ (x : List ℕ). take (length x) (between 0 (f .end) input′)) (sym same) ∙ front ∙ same;
+          unread = λ less. absurd (omega (arith, less, ap length same, many input s h));
           size = r .size;
           places = (omega arith, omega (arith, r .within, r .size));
           ended = λ e.
-              let none-came : f .end ≡ length chunk = r .shut (read-shut (f .source) (sym (ap isRead by) ∙ e)) in
+              let none-came : f .end ≡ length chunk = r .shut (shut-at-end (f .source) (sym (ap isRead by) ∙ e)) in
               let all : between 0 (f .end) input′ ≡ take (length chunk) (between 0 (f .end) input′) =
               sym (take-all (length chunk) (between 0 (f .end) input′) (omega (arith, none-came, length-take (f .end - 0) input′))) in
               (ap length (sym same) ∙ many input s h, all ∙ front ∙ same);

@@ -1,8 +1,8 @@
 -- Listing a capture as it is read: one turn of the program, and all of them.
-use Prim.Native.Nat.{ℕ, _-_, _≤_}
+use Prim.Native.Nat.{ℕ, _-_, _≤_, _<_}
 use mathlib.Core.Path.{_≡_}
 use mathlib.Core.Bool.{Bool, true, false}
-use mathlib.Core.List.{List, _++_}
+use mathlib.Core.List.{List, [], _++_}
 use lib.Dec.{ltb}
 use lib.ListN.{length, take, replicate}
 use lib.Seq.{sets}
@@ -17,7 +17,7 @@ use Rattle.listing.specs.Listing.{Said, linesAfter, numberAfter}
 use Rattle.listing.specs.Chunks.{chunked}
 use Rattle.listing.specs.InChunks.{LentChunk, captureOf, unlisted, listChunks, ListedAs}
 use Rattle.avtp_list.specs.declared.Stage.{Stage}
-use Rattle.avtp_list.specs.declared.Stage.the-variants.{Going, Read, CannotRead, CannotWrite}
+use Rattle.avtp_list.specs.declared.Stage.the-variants.{Going, AllRead, CannotRead, CannotWrite}
 use Rattle.avtp_list.specs.declared.State.{State}
 
 -- ---- Where a listing stands
@@ -25,13 +25,20 @@ use Rattle.avtp_list.specs.declared.State.{State}
 -- by what became of the input
 abbrev pub stageBy : Source → Stage
 stageBy Open = Going
-stageBy Ended = Read
+stageBy Ended = AllRead
 stageBy Failed = CannotRead
+
+-- is there more to list?
+abbrev pub isGoing : Stage → Bool
+isGoing Going = true
+isGoing AllRead = false
+isGoing CannotRead = false
+isGoing CannotWrite = false
 
 -- has all been read and listed?
 abbrev pub isRead : Stage → Bool
 isRead Going = false
-isRead Read = true
+isRead AllRead = true
 isRead CannotRead = false
 isRead CannotWrite = false
 
@@ -58,6 +65,8 @@ pub record Turned (input d : List ℕ) (s r : State) (input′ d′ : List ℕ) 
   pub lines : d′ ≡ sets d 0 (linesAfter (s .records) (listed input s (length d) .said))
   -- what is left stands in front of what may have been read
   pub left : (let rest = listed input s (length d) .rest in take (length rest) (between (r .from) (r .have) input′) ≡ rest)
+  -- more is read only where there was no whole record
+  pub unread : (let rest = listed input s (length d) .rest in length rest < s .have - s .from → between (r .from) (r .have) input′ ≡ rest)
   pub size : length input′ ≡ length input
   pub places : InPlace input′ r
   -- all has been read once there was no whole record left, and nothing more came
@@ -66,14 +75,18 @@ pub record Turned (input d : List ℕ) (s r : State) (input′ d′ : List ℕ) 
 
 -- ---- All of them
 
--- the state and the input hold a capture that came in chunks: the count and the table are theirs, and what they leave stands in the input, in
--- front of what came later
-pub record Listing (input : List ℕ) (s : State) : Type 0 where
+-- a capture of which the first bytes had been read before: the state and the input hold it as it came in chunks. The count and the table are
+-- theirs, and what they leave stands in the input, in front of what came later
+pub record Listing (first input : List ℕ) (s : State) : Type 0 where
   pub chunks : List LentChunk
   pub later : List ℕ
   pub held : between (s .from) (s .have) input ≡ listChunks unlisted chunks .rest ++ later
   pub records : s .records ≡ listChunks unlisted chunks .records
   pub table : s .table ≡ listChunks unlisted chunks .table
-  -- once all has been read, the lines of the chunks are the capture's listing, between its first line and the ending
+  -- the first bytes, and then what came behind them
+  pub behind : List ℕ
+  pub begun : captureOf chunks ++ later ≡ first ++ behind
+  -- once all has been read, nothing waits, and the lines of the chunks are the capture's listing, between its first line and the ending
+  pub all : isRead (s .stage) ≡ true → later ≡ []
   pub whole : isRead (s .stage) ≡ true
       → ListedAs (captureOf chunks) (startLine ++ (listChunks unlisted chunks .text ++ ending (ltb 0 (s .have - s .from)) (s .records))) (s .table)

@@ -16,14 +16,16 @@ use program::progress;
 use stream::Record;
 ghost use mathlib.Core.Path.{_≡_};
 ghost use Prim.Native.Nat.{_≤_};
-ghost use lib.ListN.{length};
-ghost use Rattle.lines.specs.Placing.{lineRoom};
-ghost use Rattle.avtp_list.specs.Turns.{stageBy, started, InPlace, Turned, Listing};
+ghost use lib.ListN.{length, take};
+ghost use lib.Dec.{ltb};
+ghost use Rattle.lines.specs.Lines.{startLine, ending};
+ghost use Rattle.lines.specs.Placing.{lineRoom, lineAt};
+ghost use Rattle.avtp_list.specs.Turns.{stageBy, isGoing, started, InPlace, Turned, Listing};
 
 // Where a listing stands.
 enum Stage {
     Going,
-    Read,
+    AllRead,
     CannotRead,
     CannotWrite,
 }
@@ -37,10 +39,12 @@ struct State {
     stage: Stage,
 }
 
-fn is_going(stage: Stage) -> bool {
+fn is_going(stage: Stage) -> bool
+    ensures { λ r. ⌜ r ≡ isGoing stage ⌝ }
+{
     match stage {
         Stage::Going => true,
-        Stage::Read => false,
+        Stage::AllRead => false,
         Stage::CannotRead => false,
         Stage::CannotWrite => false,
     }
@@ -52,7 +56,7 @@ fn stage_of(source: Source) -> Stage
 {
     match source {
         Source::Open => Stage::Going,
-        Source::Ended => Stage::Read,
+        Source::Ended => Stage::AllRead,
         Source::Failed => Stage::CannotRead,
     }
 }
@@ -114,13 +118,17 @@ fn write_line(placed: Placed, out: &[u8]) -> bool {
     }
 }
 
-fn write_start(out: &mut [u8]) -> bool {
+fn write_start(out: &mut [u8]) -> bool
+    ensures { λ _. ⌜ now (out .exit) ≡ lineAt (now (out .entry)) 0 startLine .buffer ⌝ }
+{
     let line = lines::put_start(out, 0);
     write_line(line, out)
 }
 
 // The bytes that are left at the end, if any, are a record that the capture ends in.
-fn write_ending(out: &mut [u8], records: u64, left: usize) -> bool {
+fn write_ending(out: &mut [u8], records: u64, left: usize) -> bool
+    ensures { λ _. ⌜ now (out .exit) ≡ lineAt (now (out .entry)) 0 (ending (ltb 0 left) records) .buffer ⌝ }
+{
     let lines = lines::put_ending(out, 0, left, records);
     write_line(lines, out)
 }
@@ -141,17 +149,20 @@ fn start(have: usize) -> State
 // that no run uses up.
 fn list_records(fd: i32, input: &mut [u8], have: usize, out: &mut [u8]) -> State
     requires { ⌜ (have ≤ length (now input)) × (lineRoom ≤ length (now out)) ⌝ }
-    ensures { λ r. ⌜ (r .from ≤ r .have) × Listing (now (input .exit)) r ⌝ }
+    ensures { λ r. ⌜ (r .from ≤ r .have) × Listing (take have (now (input .entry))) (now (input .exit)) r ⌝ }
 {
     let mut s = start(have);
     let mut shown = progress::start();
     let mut going = true;
     let mut turns = u64::MAX;
     while turns > 0 && going {
-        shown = progress::tell(shown, s.records);
         s = turn(fd, input, out, s);
         let stage = s.stage;
         going = is_going(stage);
+        // after a failure nothing is called that could hide its reason
+        if going {
+            shown = progress::tell(shown, s.records);
+        }
         turns -= 1;
     }
     progress::hide(shown);
@@ -164,8 +175,11 @@ fn finish(name: &[u8], out: &mut [u8], s: State) -> bool
 {
     let stage = s.stage;
     match stage {
-        Stage::Going => true,
-        Stage::Read => write_ending(out, s.records, s.have - s.from),
+        Stage::Going => {
+            messages::say(b"avtp_list", name, b"not listed to its end");
+            true
+        }
+        Stage::AllRead => write_ending(out, s.records, s.have - s.from),
         Stage::CannotRead => {
             messages::fail(b"avtp_list", name);
             true
@@ -178,17 +192,17 @@ fn finish(name: &[u8], out: &mut [u8], s: State) -> bool
 }
 
 // A whole capture, from its first line to its last. What cannot be read at all has no first line. Answers whether the run goes on.
-fn list(fd: i32, name: &[u8], told: bool) -> bool {
-    let mut input = input::room();
+fn list(fd: i32, name: &[u8], say_name: bool) -> bool {
+    let mut input = input::buffer();
     let mut out = io::large_buffer();
     let first = input::first(fd, &mut input, 4);
     let source = first.source;
     let have = first.end;
-    if input::has_failed(source) {
+    if input::has_failed(source) && have == 0 {
         messages::fail(b"avtp_list", name);
         return true;
     }
-    if told {
+    if say_name {
         messages::say(b"avtp_list", name, b"listing");
     }
     formats::hint(b"avtp_list", name, formats::recognise(&input[0..have]));
@@ -199,34 +213,34 @@ fn list(fd: i32, name: &[u8], told: bool) -> bool {
     finish(name, &mut out, s)
 }
 
-fn list_named(name: &[u8], told: bool) -> bool {
+fn list_named(name: &[u8], say_name: bool) -> bool {
     if options::is_dash(name) {
-        return list(STDIN_FILENO, b"standard input", told);
+        return list(STDIN_FILENO, b"standard input", say_name);
     }
     let fd = os::open_read(name);
     if fd < 0 {
         messages::fail(b"avtp_list", name);
         return true;
     }
-    let goes_on = list(fd, name, told);
+    let goes_on = list(fd, name, say_name);
     libc::close(fd);
     goes_on
 }
 
-fn list_argument(i: usize, told: bool) -> bool {
+fn list_argument(i: usize, say_name: bool) -> bool {
     let mut room = io::buffer();
     let n = options::argument(i, &mut room);
-    list_named(&room[..n], told)
+    list_named(&room[..n], say_name)
 }
 
-// The captures that are named, by every argument but `--`. Each is told by its name where there are several.
+// The captures that are named, by every argument but `--`. Where there are several, a terminal is told the name of each.
 fn list_names(request: Request, names: usize) {
-    let told = names > 1 && libc::isatty(STDERR_FILENO) == 1;
+    let say_name = names > 1 && libc::isatty(STDERR_FILENO) == 1;
     let count = request.count;
-    let rest = request.at;
+    let skipped = request.at;
     let mut i = 1;
     while i < count {
-        if i != rest && !list_argument(i, told) {
+        if i != skipped && !list_argument(i, say_name) {
             return;
         }
         i += 1;
@@ -243,7 +257,7 @@ fn list_input() {
 }
 
 fn run(request: Request) {
-    let names = options::names(request);
+    let names = options::name_count(request);
     if names == 0 {
         list_input();
         return;

@@ -7,36 +7,50 @@ use native.Mathlib.Omega.{arith}
 use borrow.Author.Tests.{ltb-true, ltb-false, leb-true, leb-false}
 use borrow.Rule.Slice.PartMut.{putMid, take-put}
 use lib.Dec.{T, ltb, leb}
+use lib.IntN.{ℤ, pos}
 use lib.ListN.{length, take, drop, length-drop, drop-of-length-le}
+use lib.Signed.{ltZ}
 use lib.Seq.{sets, sets-eq, length-sets, length-take-le, take-all, take-nil, take-at}
 use Rattle.program.specs.declared.input.Filled.{Filled}
 use Rattle.program.specs.declared.input.Source.{Source}
-use Rattle.program.specs.declared.input.Source.the-variants.{Failed}
-use Rattle.program.specs.Input.{isOpen, between, ReadBehind}
+use Rattle.program.specs.declared.input.Source.the-variants.{Open, Ended, Failed}
+use Rattle.program.specs.Input.{sourceBy, isOpen, between, ReadBehind}
+
+-- what a source says of what came
+by-source : (got : ℤ) (n : ℕ) → isOpen (sourceBy got n) ≡ ltb 0 n
+by-source got n = go (ltb 0 n) (ltZ got (pos 0))
+  where
+    go : (some below : Bool) → isOpen (cond some Open (cond below Failed Ended)) ≡ some
+    go true below = refl
+    go false true = refl
+    go false false = refl
 
 -- so many bytes came into the part behind the first ones
-pub came : (d ys : List ℕ) (have n : ℕ) (s : Source) → have ≤ length d → length (putMid have (length d - have) d ys) ≡ length d → n ≤ length d - have → isOpen s ≡ ltb 0 n
+pub came : (d ys : List ℕ) (have n : ℕ) (got : ℤ) (s : Source) → have < length d → length (putMid have (length d - have) d ys) ≡ length d → n ≤ length d - have → s ≡ sourceBy got n
     → ReadBehind (take have d) d (putMid have (length d - have) d ys) (record { end = have + n; source = s })
-came d ys have n s h size few o =
-    let l : length (take have d) ≡ have = length-take-le have d h in
+came d ys have n got s h size few is =
+    let l : length (take have d) ≡ have = length-take-le have d (omega arith) in
+    let o : isOpen s ≡ ltb 0 n = ap isOpen is ∙ by-source got n in
     record {
-      kept = rw l (take-put have (length d - have) d ys h);
+      kept = rw l (take-put have (length d - have) d ys (omega arith));
       size = size;
       within = omega arith;
       more = λ e. rw l (omega (arith, ltb-true 0 n (sym o ∙ e)));
       shut = λ e. rw l (omega (arith, ltb-false 0 n (sym o ∙ e)));
+      ended = λ e. rw l h;
     }
 
 -- there is no room behind them
-pub none-came : (d : List ℕ) (have : ℕ) → length d < have → ReadBehind (take have d) d d (record { end = length d; source = Failed })
+pub none-came : (d : List ℕ) (have : ℕ) → length d ≤ have → ReadBehind (take have d) d d (record { end = length d; source = Failed })
 none-came d have h =
-    let all : take have d ≡ d = take-all have d (omega arith) in
+    let all : take have d ≡ d = take-all have d h in
     record {
       kept = rw all (take-all (length d) d (omega arith));
       size = refl;
       within = omega arith;
       more = λ e. absurd (subst T (sym e) tt);
       shut = λ e. rw all;
+      ended = λ e. absurd (subst T (sym e) tt);
     }
 
 -- ---- The bytes between two places
@@ -86,6 +100,7 @@ read-as e l p =
       within = rw l at (p .within);
       more = rw e at (p .more);
       shut = rw e at (p .shut);
+      ended = rw (e, l) at (p .ended);
     }
 
 -- more was read behind the bytes between two places once they stood at the front

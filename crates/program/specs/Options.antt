@@ -1,8 +1,9 @@
 -- The words that a program is started with.
-use Prim.Native.Nat.{ℕ, suc, _-_}
+use Prim.Native.Nat.{ℕ, suc, _-_, _<_}
 use mathlib.Core.Path.{_≡_}
 use mathlib.Core.Bool.{Bool, true, false, cond}
 use mathlib.Core.List.{List, [], _∷_}
+use lib.ListN.{length}
 use Rattle.text.specs.Text.{ascii}
 use Rattle.program.specs.Words.{startsWith, same}
 use Rattle.program.specs.declared.options.Word.{Word}
@@ -39,14 +40,16 @@ firstOption at [] = (Name, at)
 firstOption at (w ∷ ws) = cond (isName (meaning w)) (firstOption (suc at) ws) (meaning w, at)
 
 -- the meaning of some word: which it is the system says
-pub record Said (r : Word) : Type 0 where
+pub record Meant (r : Word) : Type 0 where
   pub word : List ℕ
   pub meant : r ≡ meaning word
 
--- the answer is that of some words
+-- the answer is that of some words: all that there are behind the program's own name, or those up to the first that is no name
 pub record Requested (r : Request) : Type 0 where
   pub words : List (List ℕ)
   pub first : (r .word, r .at) ≡ firstOption 1 words
+  pub all : isName (r .word) ≡ true → length words ≡ r .count - 1
+  pub some : isName (r .word) ≡ false → (length words ≡ r .at) × (r .at < r .count)
 
 -- how many are no names: the program's own, and the one that is no name
 abbrev pub othersBy : Word → ℕ

@@ -2,16 +2,17 @@
 ghost use mathlib.Core.Path.{_≡_};
 ghost use Prim.Native.Nat.{_-_, _≤_};
 ghost use mathlib.Core.Bool.{cond};
-ghost use lib.Dec.{leb, ltb};
+ghost use lib.Dec.{leb};
 ghost use lib.ListN.{length, take};
 ghost use lib.Seq.{sets};
-ghost use Rattle.program.specs.Input.{isOpen, hasFailed, between, ReadBehind, First};
+ghost use Rattle.program.specs.Input.{isOpen, hasFailed, sourceBy, between, ReadBehind, First};
 
 // What became of the input.
 pub enum Source {
-    // more may come
+    // something came, and more may
     Open,
     Ended,
+    // it could not be read, or there was no room to read into
     Failed,
 }
 
@@ -22,7 +23,7 @@ pub struct Filled {
 }
 
 // Room for the input: more than the 65,537 bytes of a capture's longest record.
-pub fn room() -> [u8; 262144]
+pub fn buffer() -> [u8; 262144]
     ensures { λ r. ⌜ 262144 ≡ length r ⌝ }
 {
     [0u8; 262144]
@@ -43,7 +44,7 @@ fn move_down(input: &mut [u8], from: usize, have: usize) -> usize
 
 // What became of the input, by what a read answered and how many bytes came.
 fn source_after(got: isize, n: usize) -> Source
-    ensures { λ r. ⌜ isOpen r ≡ ltb 0 n ⌝ }
+    ensures { λ r. ⌜ r ≡ sourceBy got n ⌝ }
 {
     if n > 0 {
         return Source::Open;
@@ -58,7 +59,7 @@ fn source_after(got: isize, n: usize) -> Source
 pub fn fill(fd: i32, input: &mut [u8], have: usize) -> Filled
     ensures { λ r. ⌜ ReadBehind (take have (now (input .entry))) (now (input .entry)) (now (input .exit)) r ⌝ }
 {
-    if have > input.len() {
+    if have >= input.len() {
         return Filled {
             end: input.len(),
             source: Source::Failed,

@@ -2,10 +2,8 @@
 use libc::STDERR_FILENO;
 use libc::STDOUT_FILENO;
 ghost use mathlib.Core.Path.{_≡_};
-ghost use Prim.Native.Nat.{_≤_};
 ghost use mathlib.Core.Bool.{true};
 ghost use mathlib.Core.List.{[]};
-ghost use lib.ListN.{length};
 ghost use Rattle.text.specs.InTurn.{PutInTurn};
 ghost use Rattle.program.specs.Messages.{plain, shownByte, shown, NamesArePrintable, about, message};
 

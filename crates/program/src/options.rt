@@ -6,7 +6,7 @@ ghost use mathlib.Core.Path.{_≡_};
 ghost use Rattle.io.specs.Counts.{Counts};
 ghost use Rattle.text.specs.Text.{ascii};
 ghost use Rattle.program.specs.Words.{same as sameWord};
-ghost use Rattle.program.specs.Options.{optionOf, meaning, isName, Said, Requested, othersBy, namesOf};
+ghost use Rattle.program.specs.Options.{optionOf, meaning, isName, Meant, Requested, othersBy, namesOf};
 
 // What a word asks for.
 pub enum Word {
@@ -81,7 +81,7 @@ pub fn argument(i: usize, room: &mut [u8]) -> usize
 }
 
 fn word_at(i: usize) -> Word
-    ensures { λ r. ⌜ Said r ⌝ }
+    ensures { λ r. ⌜ Meant r ⌝ }
 {
     let mut room = io::buffer();
     let n = argument(i, &mut room);
@@ -133,7 +133,7 @@ fn others(word: Word) -> usize
 }
 
 // How many names there are, where no option but `--` is among the arguments.
-pub fn names(request: Request) -> usize
+pub fn name_count(request: Request) -> usize
     ensures { λ r. ⌜ r ≡ namesOf request ⌝ }
 {
     let word = request.word;
@@ -144,7 +144,7 @@ pub fn names(request: Request) -> usize
     request.count - others
 }
 
-// An option that there is not.
+// Says that an option is unknown.
 pub fn refuse(program: &[u8], i: usize) {
     let mut room = io::buffer();
     let n = argument(i, &mut room);

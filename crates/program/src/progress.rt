@@ -1,5 +1,5 @@
-// How far a long run has come, shown on standard error about once a second. Only where that is a terminal and standard output is not:
-// elsewhere the lines of the run tell, or nobody reads it.
+// How far a long run has come, shown on standard error about once a second. Only where that is a terminal, and standard output is a file:
+// what goes to a terminal tells by itself how far it has come, and a pipe may end at the same terminal.
 use libc::STDERR_FILENO;
 use libc::STDOUT_FILENO;
 ghost use mathlib.Core.Path.{_≡_};
@@ -27,12 +27,17 @@ fn clock() -> u64 {
     second as u64
 }
 
+// Has the descriptor a place to read or write at, which no terminal and no pipe has?
+fn is_file(fd: i32) -> bool {
+    libc::lseek(fd, 0, libc::SEEK_CUR) >= 0
+}
+
 // A run begins.
 pub fn start() -> Progress
     ensures { λ r. ⌜ (r .ticked ≡ false) × (r .shown ≡ false) ⌝ }
 {
     Progress {
-        wanted: libc::isatty(STDERR_FILENO) == 1 && libc::isatty(STDOUT_FILENO) != 1,
+        wanted: libc::isatty(STDERR_FILENO) == 1 && is_file(STDOUT_FILENO),
         second: clock(),
         ticked: false,
         shown: false,

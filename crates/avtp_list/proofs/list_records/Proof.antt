@@ -2,14 +2,14 @@ use mathlib.Core.Path.{_≡_, refl, ap, _∙_}
 use native.Mathlib.Omega.{arith}
 use borrow.Author.Needs.{needs}
 use denote.Ref.{now}
-use lib.ListN.{length}
+use lib.ListN.{length, take}
 use Rattle.avtp_list.specs.Turns.{InPlace, Listing}
 use Rattle.avtp_list.proofs.Listed.{out-size, at-start, after-turn}
 use Rattle.avtp_list.proofs.list_records.Statement.{statement}
 use Rattle.avtp_list.proofs.list_records.Tie as tie
 
 abbrev Inv-loop : tie.InvT-loop
-Inv-loop fd input₀ have out₀ s₀ shown₀ going₀ turns₀ input out s shown going turns = InPlace input s × (length input ≡ length input₀) × (length out ≡ length out₀) × Listing input s
+Inv-loop fd input₀ have out₀ s₀ shown₀ going₀ turns₀ input out s shown going turns = InPlace input s × (length input ≡ length input₀) × (length out ≡ length out₀) × Listing (take have input₀) input s
 
 abbrev μ-loop : tie.MeasureT-loop
 μ-loop fd input₀ have out₀ s₀ shown₀ going₀ turns₀ input out s shown going turns = turns
@@ -22,11 +22,11 @@ loop-holds c =
 
 loop-again : tie.Need-loop-again Inv-loop μ-loop
 loop-again c =
-    let turned = c .before .before .before .before .before in
-    let l = turned .before .before .before .before .before .before .loop in
-    let pre = turned .before .before .before .before .before .before .before .before .before .before .before .pre in
+    let turned = c .before .before .before .before .before .before in
+    let l = turned .before .before .before .before .before .loop in
+    let pre = turned .before .before .before .before .before .before .before .before .before .before .pre in
     let t = turned .turn .ensures in
-    (t .places, t .size ∙ l .inv .1, out-size t ∙ l .inv .2, after-turn (l .input) (l .out) (l .s) _ _ _ (l .inv .0) (omega (arith, l .inv .2, pre .1)) (l .inv .3) t)
+    (t .places, t .size ∙ l .inv .1, out-size t ∙ l .inv .2, after-turn _ (l .input) (l .out) (l .s) _ _ _ (l .inv .0) (omega (arith, l .inv .2, pre .1)) (l .inv .3) t)
 
 returns : tie.Need-returns Inv-loop μ-loop
 returns c = let inv = c .before .before .loop .inv in (inv .0 .0, inv .3)

@@ -1,6 +1,8 @@
 use borrow.Author.Needs.{needs}
 use native.Mathlib.Omega.{arith}
 use denote.Ref.{now}
+use mir.Syntax.{w64}
+use mir.Val.{toZ, ofZ}
 use Rattle.program.proofs.Reading.{came, none-came}
 use Rattle.program.proofs.input.fill.Statement.{statement}
 use Rattle.program.proofs.input.fill.Tie as tie
@@ -50,7 +52,8 @@ same-length c = search needs
 returns-2 : tie.Need-returns-2
 returns-2 c =
     let a = c .before .before .before .before .before .before .before .before .before .before .before .before .args in
-    came (now (a .input)) (c .before .before .before .before .before .before .before .read .last .1 .0) (a .have) (c .before .before .before .count .result) (c .source-after .result) (omega arith) (same-length c) (search needs) (c .source-after .ensures)
+    let read = c .before .before .before .before .before .before .before .read in
+    came (now (a .input)) (read .last .1 .0) (a .have) (c .before .before .before .count .result) (toZ w64 (ofZ w64 (read .result))) (c .source-after .result) (omega arith) (same-length c) (search needs) (c .source-after .ensures)
 
 pub fill-spec : {M : Type 1} → statement M
 fill-spec =
