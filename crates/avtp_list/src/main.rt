@@ -176,19 +176,30 @@ fn finish(name: &[u8], out: &mut [u8], s: State) -> bool
     let stage = s.stage;
     match stage {
         Stage::Going => {
-            messages::say(b"avtp_list", name, b"not listed to its end");
+            messages::say(out, b"avtp_list", name, b"not listed to its end");
             true
         }
         Stage::AllRead => write_ending(out, s.records, s.have - s.from),
         Stage::CannotRead => {
-            messages::fail(b"avtp_list", name);
+            messages::fail(out, b"avtp_list", name);
             true
         }
         Stage::CannotWrite => {
-            messages::fail_output(b"avtp_list");
+            messages::fail(out, b"avtp_list", b"standard output");
             false
         }
     }
+}
+
+// What is said of a capture before its listing: its name, and that it looks like something else.
+fn introduce(room: &mut [u8], name: &[u8], say_name: bool, first: &[u8]) {
+    let format = formats::recognise(first);
+    if !say_name {
+        formats::hint(room, b"avtp_list", name, format);
+        return;
+    }
+    messages::say(room, b"avtp_list", name, b"listing");
+    formats::hint(room, b"avtp_list", name, format);
 }
 
 // A whole capture, from its first line to its last. What cannot be read at all has no first line. Answers whether the run goes on.
@@ -199,13 +210,10 @@ fn list(fd: i32, name: &[u8], say_name: bool) -> bool {
     let source = first.source;
     let have = first.end;
     if input::has_failed(source) && have == 0 {
-        messages::fail(b"avtp_list", name);
+        messages::fail(&mut out, b"avtp_list", name);
         return true;
     }
-    if say_name {
-        messages::say(b"avtp_list", name, b"listing");
-    }
-    formats::hint(b"avtp_list", name, formats::recognise(&input[0..have]));
+    introduce(&mut out, name, say_name, &input[0..have]);
     if !write_start(&mut out) {
         return false;
     }
@@ -219,7 +227,8 @@ fn list_named(name: &[u8], say_name: bool) -> bool {
     }
     let fd = os::open_read(name);
     if fd < 0 {
-        messages::fail(b"avtp_list", name);
+        let mut room = io::large_buffer();
+        messages::fail(&mut room, b"avtp_list", name);
         return true;
     }
     let goes_on = list(fd, name, say_name);
@@ -265,13 +274,18 @@ fn run(request: Request) {
     list_names(request, names);
 }
 
+fn refuse(at: usize) {
+    let mut room = io::large_buffer();
+    options::refuse(&mut room, b"avtp_list", at);
+}
+
 fn main() {
     let request = options::read_request();
     let word = request.word;
     match word {
         Word::Help => help::show_help(),
         Word::Version => help::show_version(),
-        Word::Unknown => options::refuse(b"avtp_list", request.at),
+        Word::Unknown => refuse(request.at),
         Word::Name => run(request),
         Word::Rest => run(request),
     }

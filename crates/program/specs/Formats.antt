@@ -2,7 +2,9 @@
 use Prim.Native.Nat.{ℕ}
 use mathlib.Core.Bool.{cond}
 use mathlib.Core.List.{List, [], _∷_}
+use Rattle.text.specs.Text.{ascii}
 use Rattle.program.specs.Words.{startsWith}
+use Rattle.program.specs.Messages.{message}
 use Rattle.program.specs.declared.formats.Format.{Format}
 use Rattle.program.specs.declared.formats.Format.the-variants.{Other, Pcap, Pcapng, Gzip}
 
@@ -17,3 +19,10 @@ startOf bytes =
     (cond (startsWith (0xA1 ∷ 0xB2 ∷ 0x3C ∷ 0x4D ∷ []) bytes) Pcap
     (cond (startsWith (0x4D ∷ 0x3C ∷ 0xB2 ∷ 0xA1 ∷ []) bytes) Pcap
     Other)))))
+
+-- what is said of a file with such a start, if anything
+abbrev pub hintOf : List ℕ → List ℕ → Format → List ℕ
+hintOf program name Other = []
+hintOf program name Pcap = message program name (ascii "starts like a pcap file; a capture has a format of its own (see --help)")
+hintOf program name Pcapng = message program name (ascii "starts like a pcapng file; a capture has a format of its own (see --help)")
+hintOf program name Gzip = message program name (ascii "starts like a gzip file; unpack it first")

@@ -1,6 +1,6 @@
 pub mod Words
-pub mod Options
 pub mod Messages
+pub mod Options
 pub mod Input
 pub mod Formats
 pub mod Progress

@@ -5,7 +5,9 @@ use mathlib.Core.Bool.{Bool, true, false, cond}
 use mathlib.Core.List.{List, [], _∷_}
 use lib.ListN.{length}
 use Rattle.text.specs.Text.{ascii}
+use Rattle.text.specs.InTurn.{PutInTurn}
 use Rattle.program.specs.Words.{startsWith, same}
+use Rattle.program.specs.Messages.{message}
 use Rattle.program.specs.declared.options.Word.{Word}
 use Rattle.program.specs.declared.options.Word.the-variants.{Name, Help, Version, Rest, Unknown}
 use Rattle.program.specs.declared.options.Request.{Request}
@@ -57,3 +59,8 @@ othersBy w = cond (isName w) 1 2
 
 abbrev pub namesOf : Request → ℕ
 namesOf r = r .count - othersBy (r .word)
+
+-- a word is refused, which the system says: d is the room of the message, and d′ the same afterwards
+pub record Refused (program d d′ : List ℕ) (r : ℕ) : Type 0 where
+  pub word : List ℕ
+  pub said : PutInTurn d 0 (message program word (ascii "unknown option; --help lists the options")) d′ r

@@ -1,7 +1,7 @@
 -- How far a long run has come, by the seconds that a clock shows.
 use Prim.Native.Nat.{ℕ}
 use mathlib.Core.Path.{_≡_}
-use mathlib.Core.Bool.{true, cond}
+use mathlib.Core.Bool.{true, false, cond}
 use lib.Dec.{eqb}
 use Rattle.program.specs.declared.progress.Progress.{Progress}
 
@@ -14,3 +14,7 @@ ticked p second =
 pub record Told (p r : Progress) : Type 0 where
   pub second : ℕ
   pub next : r ≡ cond (p .wanted) (ticked p second) p
+
+-- once it is wiped
+abbrev pub hidden : Progress → Progress
+hidden p = record { wanted = p .wanted; second = p .second; ticked = p .ticked; shown = false }

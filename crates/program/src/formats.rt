@@ -2,7 +2,8 @@
 use crate::messages;
 use crate::words::starts_with;
 ghost use mathlib.Core.Path.{_≡_};
-ghost use Rattle.program.specs.Formats.{startOf};
+ghost use Rattle.text.specs.InTurn.{PutInTurn};
+ghost use Rattle.program.specs.Formats.{startOf, hintOf};
 
 pub enum Format {
     // none of those below
@@ -38,26 +39,29 @@ pub fn recognise(bytes: &[u8]) -> Format
     Format::Other
 }
 
-// Says so where a file that is read as a capture looks like something else.
-pub fn hint(program: &[u8], name: &[u8], format: Format) {
+// Says so where a file that is read as a capture looks like something else, as `messages::say` does.
+pub fn hint(room: &mut [u8], program: &[u8], name: &[u8], format: Format) -> usize
+    ensures { λ r. ⌜ PutInTurn (now (room .entry)) 0 (hintOf (now (program .entry)) (now (name .entry)) format) (now (room .exit)) r ⌝ }
+{
     match format {
-        Format::Other => {}
-        Format::Pcap => {
-            messages::say(
-                program,
-                name,
-                b"starts like a pcap file; a capture has a format of its own (see --help)",
-            );
-        }
-        Format::Pcapng => {
-            messages::say(
-                program,
-                name,
-                b"starts like a pcapng file; a capture has a format of its own (see --help)",
-            );
-        }
-        Format::Gzip => {
-            messages::say(program, name, b"starts like a gzip file; unpack it first");
-        }
+        Format::Other => 0,
+        Format::Pcap => messages::say(
+            room,
+            program,
+            name,
+            b"starts like a pcap file; a capture has a format of its own (see --help)",
+        ),
+        Format::Pcapng => messages::say(
+            room,
+            program,
+            name,
+            b"starts like a pcapng file; a capture has a format of its own (see --help)",
+        ),
+        Format::Gzip => messages::say(
+            room,
+            program,
+            name,
+            b"starts like a gzip file; unpack it first",
+        ),
     }
 }

@@ -52,7 +52,7 @@ fn names_are_printable()
 {}
 
 // What a message about a file starts with: the program's name and the file's.
-pub fn put_about(out: &mut [u8], at: usize, program: &[u8], name: &[u8]) -> usize
+fn put_about(out: &mut [u8], at: usize, program: &[u8], name: &[u8]) -> usize
     ensures { λ r. ⌜ PutInTurn (now (out .entry)) at (about (now (program .entry)) (now (name .entry))) (now (out .exit)) r ⌝ }
 {
     let end = text::put(out, at, program);
@@ -61,7 +61,7 @@ pub fn put_about(out: &mut [u8], at: usize, program: &[u8], name: &[u8]) -> usiz
 }
 
 // A message about a file.
-pub fn put_message(out: &mut [u8], at: usize, program: &[u8], name: &[u8], text: &[u8]) -> usize
+fn put_message(out: &mut [u8], at: usize, program: &[u8], name: &[u8], text: &[u8]) -> usize
     ensures { λ r. ⌜ PutInTurn (now (out .entry)) at (message (now (program .entry)) (now (name .entry)) (now (text .entry))) (now (out .exit)) r ⌝ }
 {
     let end = put_about(out, at, program, name);
@@ -70,27 +70,27 @@ pub fn put_message(out: &mut [u8], at: usize, program: &[u8], name: &[u8], text:
     text::put(out, end, b"\n")
 }
 
-// Says something about a file.
-pub fn say(program: &[u8], name: &[u8], text: &[u8]) {
-    let mut out = io::large_buffer();
-    let end = put_message(&mut out, 0, program, name, text);
-    if end <= out.len() {
-        io::write_all(STDERR_FILENO, &out[0..end]);
+// Says something about a file. The message stands in the room that the caller lends, and goes to standard error from there. Answers the
+// place after it; one that has no room is not said.
+pub fn say(room: &mut [u8], program: &[u8], name: &[u8], text: &[u8]) -> usize
+    ensures { λ r. ⌜ PutInTurn (now (room .entry)) 0 (message (now (program .entry)) (now (name .entry)) (now (text .entry))) (now (room .exit)) r ⌝ }
+{
+    let end = put_message(room, 0, program, name, text);
+    if end <= room.len() {
+        io::write_all(STDERR_FILENO, &room[0..end]);
     }
+    end
 }
 
-// Says why the last call on a file failed.
-pub fn fail(program: &[u8], name: &[u8]) {
-    let mut out = io::large_buffer();
-    let end = put_about(&mut out, 0, program, name);
-    if end <= out.len() {
-        os::fail(&out[0..end]);
+// Says why the last call on a file failed: what stands in the room, and the system's reason behind it.
+pub fn fail(room: &mut [u8], program: &[u8], name: &[u8]) -> usize
+    ensures { λ r. ⌜ PutInTurn (now (room .entry)) 0 (about (now (program .entry)) (now (name .entry))) (now (room .exit)) r ⌝ }
+{
+    let end = put_about(room, 0, program, name);
+    if end <= room.len() {
+        os::fail(&room[0..end]);
     }
-}
-
-// Says why standard output cannot be written.
-pub fn fail_output(program: &[u8]) {
-    fail(program, b"standard output");
+    end
 }
 
 // Writes all of a text to standard output, or says why it cannot.
@@ -103,6 +103,7 @@ pub fn write(program: &[u8], text: &[u8]) -> bool
     if io::write_all(STDOUT_FILENO, text) {
         return true;
     }
-    fail_output(program);
+    let mut room = io::large_buffer();
+    fail(&mut room, program, b"standard output");
     false
 }

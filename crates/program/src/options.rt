@@ -6,7 +6,7 @@ ghost use mathlib.Core.Path.{_≡_};
 ghost use Rattle.io.specs.Counts.{Counts};
 ghost use Rattle.text.specs.Text.{ascii};
 ghost use Rattle.program.specs.Words.{same as sameWord};
-ghost use Rattle.program.specs.Options.{optionOf, meaning, isName, Meant, Requested, othersBy, namesOf};
+ghost use Rattle.program.specs.Options.{optionOf, meaning, isName, Meant, Requested, othersBy, namesOf, Refused};
 
 // What a word asks for.
 pub enum Word {
@@ -144,13 +144,16 @@ pub fn name_count(request: Request) -> usize
     request.count - others
 }
 
-// Says that an option is unknown.
-pub fn refuse(program: &[u8], i: usize) {
-    let mut room = io::buffer();
-    let n = argument(i, &mut room);
+// Says that the option at a place is unknown, as `messages::say` does.
+pub fn refuse(room: &mut [u8], program: &[u8], i: usize) -> usize
+    ensures { λ r. ⌜ Refused (now (program .entry)) (now (room .entry)) (now (room .exit)) r ⌝ }
+{
+    let mut word = io::buffer();
+    let n = argument(i, &mut word);
     messages::say(
+        room,
         program,
-        &room[..n],
+        &word[..n],
         b"unknown option; --help lists the options",
-    );
+    )
 }

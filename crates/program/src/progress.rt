@@ -4,7 +4,7 @@ use libc::STDERR_FILENO;
 use libc::STDOUT_FILENO;
 ghost use mathlib.Core.Path.{_≡_};
 ghost use mathlib.Core.Bool.{false};
-ghost use Rattle.program.specs.Progress.{ticked, Told};
+ghost use Rattle.program.specs.Progress.{ticked, Told, hidden};
 
 pub struct Progress {
     // Is it to be shown at all?
@@ -80,8 +80,16 @@ pub fn tell(p: Progress, records: u64) -> Progress
 }
 
 // The run is over. Only what was shown is wiped.
-pub fn hide(p: Progress) {
+pub fn hide(p: Progress) -> Progress
+    ensures { λ r. ⌜ r ≡ hidden p ⌝ }
+{
     if p.shown {
         io::write_all(STDERR_FILENO, b"\r                            \r");
+    }
+    Progress {
+        wanted: p.wanted,
+        second: p.second,
+        ticked: p.ticked,
+        shown: false,
     }
 }

@@ -5,7 +5,17 @@ use Rattle.program.proofs.messages.write.Statement.{statement}
 use Rattle.program.proofs.messages.write.Tie as tie
 
 returns-3 : tie.Need-returns-3
-returns-3 c = λ e. absurd (c .before .before .before .if1 .left (ap length e))
+returns-3 c = λ e. absurd (c .before .before .before .before .before .before .before .if1 .left (ap length e))
 
 pub write-spec : {M : Type 1} → statement M
-write-spec = tie.close (tie.spec (λ c. search needs) (λ c κs. search needs) (λ c. search needs) (λ c κs. search needs) returns-3)
+write-spec =
+    tie.close
+    (tie.spec
+    (λ c. search needs)
+    (λ c κs. search needs)
+    (λ c. search needs)
+    (λ c κs. search needs)
+    (λ c. search needs)
+    (λ c. search needs)
+    (λ c κs. search needs)
+    returns-3)
