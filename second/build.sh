@@ -1,10 +1,11 @@
 #!/usr/bin/env bash
-# Builds the second program, its unit tests and the generator of captures.
+# Builds the second programs, their unit tests and the generator of captures and
+# questions.
 #
 #   build.sh OUTDIR
 #
-# Puts second_list, unit_tests and generate into OUTDIR. RUSTC may name the
-# compiler.
+# Puts second_list, second_cycles, the unit tests of each (unit_tests and
+# unit_tests_cycles) and generate into OUTDIR. RUSTC may name the compiler.
 set -euo pipefail
 
 if (($# != 1)); then
@@ -20,4 +21,6 @@ mkdir -p "$out"
 # modules, and calls from one room to another are not inlined.
 "$rustc" -O -C lto=fat --edition 2021 -o "$out/second_list" "$here/list.rs"
 "$rustc" --test --edition 2021 -o "$out/unit_tests" "$here/list.rs"
+"$rustc" -O --edition 2021 -o "$out/second_cycles" "$here/cycles.rs"
+"$rustc" --test --edition 2021 -o "$out/unit_tests_cycles" "$here/cycles.rs"
 "$rustc" -O --edition 2021 -o "$out/generate" "$here/generate/main.rs"

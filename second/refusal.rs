@@ -1,7 +1,8 @@
 //! Refusals and their numbers.
 
-/// Why a frame, a call on the table or a capture record is refused. The value
-/// of each case is the number a listing prints.
+/// Why a frame, a call on the table, a capture record or a cycle time is refused.
+/// The value of each case is the number a program prints.
+#[allow(dead_code)] // no program prints every number
 #[derive(Clone, Copy, Debug, PartialEq, Eq)]
 #[repr(u8)]
 pub enum Refusal {
@@ -26,10 +27,13 @@ pub enum Refusal {
     CaptureEnds = 41,
     RecordLength = 42,
     RecordKind = 43,
+    Cycle = 61,
+    CycleOffset = 62,
+    CycleSeconds = 63,
 }
 
 impl Refusal {
-    /// The number a listing prints.
+    /// The number a program prints.
     pub fn number(self) -> u64 {
         self as u64
     }

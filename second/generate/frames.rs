@@ -6,7 +6,7 @@ use crate::chance::Chance;
 pub const LONGEST_PAYLOAD: usize = 1468;
 
 /// Every field of a frame, those that readers ignore too.
-#[derive(Clone)]
+#[derive(Clone, Default)]
 pub struct Frame {
     pub destination: [u8; 6],
     pub source: [u8; 6],

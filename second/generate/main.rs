@@ -1,13 +1,16 @@
 //! Generates captures of IEC 61883 streams over AVTP: sound, damaged and
-//! hostile ones, the same for the same seed.
+//! hostile ones, the same for the same seed; and questions about cycle time.
 //!
 //! - `generate DIR SEED COUNT` writes COUNT captures DIR/000000.cap and on.
 //! - `generate --bench DIR` writes the captures that speed is measured on.
 //! - `generate --drip FILE PIECE` writes FILE to standard output, PIECE bytes at
 //!   a time, each piece flushed.
+//! - `generate --edge-questions` writes the questions about cycle time at the edges
+//!   of each rule to standard output.
+//! - `generate --questions SEED` writes those of a long comparison.
 //!
 //! The generator has this folder to itself: rustc looks for a root's modules
-//! beside the root, and these are none of the listing program's rooms. Nothing is
+//! beside the root, and these are none of the other programs' rooms. Nothing is
 //! shared with those: the generator knows the layouts by itself, and makes damaged
 //! frames too.
 //!
@@ -15,18 +18,22 @@
 
 mod captures;
 mod chance;
+mod cycle_edges;
+mod cycle_runs;
 mod damage;
 mod edges;
 mod frames;
 mod kinds;
 mod measuring;
 mod noise;
+mod questions;
 mod senders;
+mod ticks;
 mod times;
 mod traffic;
 
 use std::fs;
-use std::io::{self, Write};
+use std::io::{self, BufWriter, Write};
 use std::path::Path;
 use std::process::ExitCode;
 
@@ -50,14 +57,35 @@ fn drip(file: &Path, piece: usize) -> io::Result<()> {
     Ok(())
 }
 
+/// Writes the edge questions to standard output.
+fn write_edge_questions() -> io::Result<()> {
+    let mut out = io::stdout().lock();
+    out.write_all(&cycle_edges::edge_questions())?;
+    out.flush()
+}
+
+/// Writes the questions of a seed to standard output.
+fn write_questions(seed: u64) -> io::Result<()> {
+    let mut out = BufWriter::with_capacity(1 << 16, io::stdout().lock());
+    cycle_runs::write_questions(seed, &mut out)?;
+    out.flush()
+}
+
 const USAGE: &str = "usage: generate DIR SEED COUNT
        generate --bench DIR
-       generate --drip FILE PIECE";
+       generate --drip FILE PIECE
+       generate --edge-questions
+       generate --questions SEED";
 
 fn main() -> ExitCode {
     let words: Vec<String> = std::env::args().skip(1).collect();
     let words: Vec<&str> = words.iter().map(String::as_str).collect();
     let done = match words[..] {
+        ["--edge-questions"] => write_edge_questions(),
+        ["--questions", seed] => match seed.parse() {
+            Ok(seed) => write_questions(seed),
+            Err(_) => Err(io::Error::other(USAGE)),
+        },
         ["--bench", dir] => measuring::bench_captures(Path::new(dir)),
         ["--drip", file, piece] => match piece.parse() {
             Ok(piece) => drip(Path::new(file), piece),

@@ -1,13 +1,9 @@
 -- The offset of a stamp T from an arrival time L (document 01, Presentation time).
-use Prim.Native.Nat.{ℕ, _+_, _-_, _%_, _<_}
+use Prim.Native.Nat.{ℕ, _+_}
 use mathlib.Core.Path.{_≡_}
-use lib.IntN.{ℤ, pos, negsuc, negℤ, _+ℤ_, _-ℤ_, _*ℤ_}
+use lib.IntN.{ℤ, pos, negℤ, _+ℤ_, _-ℤ_}
 use lib.Signed.{_≤ℤ_}
-
--- the remainder of a whole number, from 0 to m - 1 also for one below zero
-abbrev pub modulo : ℤ → ℕ → ℕ
-modulo (pos n) m = n % m
-modulo (negsuc n) m = m - 1 - n % m
+use Rattle.wrapping.specs.Wrapping.{modulo}
 
 -- T - L, brought into range by whole wraps: counted from the lowest offset, it is the remainder of T - L + half a wrap
 unfoldable pub offset : ℕ → ℕ → ℤ
@@ -34,14 +30,3 @@ pub record OffsetEdges : Type 0 where
   pub lowest : (L : ℕ) → offset L (L + 2_147_483_648) ≡ negℤ (pos 2_147_483_648)
   pub wrap-of-L : (L T : ℕ) → offset (L + 4_294_967_296) T ≡ offset L T
   pub wrap-of-T : (L T : ℕ) → offset L (T + 4_294_967_296) ≡ offset L T
-
--- ---- `modulo`, by which all of this is said, is the remainder
-
--- what makes r the remainder of z: z is a whole number of times m, and r, which is below m
-pub record IsRemainder (z : ℤ) (m r : ℕ) : Type 0 where
-  pub times : ℤ
-  pub whole : z ≡ times *ℤ pos m +ℤ pos r
-  pub below : r < m
-
-abbrev pub Remainder : Type 0
-Remainder = (z : ℤ) (m : ℕ) → 0 < m → IsRemainder z m (modulo z m)

@@ -1,7 +1,7 @@
 // Presentation time: when a frame's samples are due, by its stamp and the time at which it arrived.
 use frame::layout::Fields;
 ghost use mathlib.Core.Path.{_≡_};
-ghost use Rattle.presentation.specs.Offset.{OneOffset, OffsetEdges, Remainder};
+ghost use Rattle.presentation.specs.Offset.{OneOffset, OffsetEdges};
 ghost use Rattle.presentation.specs.Presentation.{untimed, stampOf, timing, presentation};
 
 pub enum Kind {
@@ -110,9 +110,4 @@ fn one_offset()
 // What the offset is at zero, at both ends and at the wrap.
 fn offset_edges()
     ensures { λ _. ⌜ OffsetEdges ⌝ }
-{}
-
-// What is said to be equal modulo a wrap is so by the remainder.
-fn remainder()
-    ensures { λ _. ⌜ Remainder ⌝ }
 {}

@@ -1,4 +1,4 @@
-// Every reason for which a call of the analyser answers a number of document 01.
+// Every reason for which a call of the analyser answers a number of document 01, those of the requests among them.
 ghost use mathlib.Core.Path.{_≡_};
 ghost use Rattle.refusal.specs.Refusals.{numberOf};
 
@@ -34,6 +34,10 @@ pub enum Refusal {
     RecordCut,
     RecordLength,
     RecordKind,
+    // Cycle times (request #101): 61 to 63.
+    CycleTooLarge,
+    OffsetInCycleTooLarge,
+    CycleSecondsTooLarge,
 }
 
 // What some checks come to: none of them applies, or the first that does.
@@ -73,5 +77,8 @@ pub fn number(refusal: Refusal) -> u8
         Refusal::RecordCut => 41,
         Refusal::RecordLength => 42,
         Refusal::RecordKind => 43,
+        Refusal::CycleTooLarge => 61,
+        Refusal::OffsetInCycleTooLarge => 62,
+        Refusal::CycleSecondsTooLarge => 63,
     }
 }

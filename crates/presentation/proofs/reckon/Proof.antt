@@ -2,8 +2,9 @@
 use mathlib.Core.Path.{refl}
 use native.Mathlib.Omega.{arith}
 use borrow.Author.Needs.{needs}
-use Rattle.presentation.proofs.Offset.{distance}
-use Rattle.presentation.proofs.Reckoning.{before-zero, late, past-end, ahead, fits, reckoned}
+use Rattle.wrapping.proofs.Offset.{fits}
+use Rattle.presentation.proofs.Offset.{half, distance}
+use Rattle.presentation.proofs.Reckoning.{before-zero, late, past-end, ahead, reckoned}
 use Rattle.presentation.proofs.reckon.Statement.{statement}
 use Rattle.presentation.proofs.reckon.Tie as tie
 
@@ -23,7 +24,7 @@ cast-offset-2 : tie.Need-cast-offset-2
 cast-offset-2 c = search needs
 
 sub-offset : tie.Need-sub-offset
-sub-offset c = fits (distance (c .args .arrival-time) (c .args .stamp)) (omega arith)
+sub-offset c = fits half (distance (c .args .arrival-time) (c .args .stamp)) (omega arith) (omega arith)
 
 sub-back : tie.Need-sub-back
 sub-back c = search needs

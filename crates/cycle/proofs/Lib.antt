@@ -1,0 +1,4 @@
+pub mod Range
+pub mod BothWays
+pub mod Offsets
+pub mod Answers

@@ -1,0 +1,2 @@
+pub mod CycleTime
+pub mod Judgement

@@ -1,0 +1,192 @@
+#!/usr/bin/env bash
+# Compares the first program with the second, on questions about cycle time.
+#
+#   compare_cycles.sh VECTORS [SEED]
+#
+# VECTORS is the first program: it reads questions on standard input, as the
+# second does (cycles.rs says what they are), and writes a line for each. The edge
+# questions that are stored with the first program, and their answers, must be
+# those that the generator makes and that both programs give. Then both answer the
+# questions made from SEED, and their answers must agree byte for byte. At last it
+# is shown how often each thing that an answer can say came up, and each that must
+# come up has to. The questions are made again by `generate --questions SEED`.
+set -euo pipefail
+
+if (($# < 1 || $# > 2)); then
+    echo "usage: compare_cycles.sh VECTORS [SEED]" >&2
+    exit 2
+fi
+seed=${2:-101}
+if [[ ! -f $1 || ! -x $1 ]]; then
+    echo "compare_cycles.sh: $1: no program" >&2
+    exit 2
+fi
+here=$(cd "$(dirname "${BASH_SOURCE[0]}")" && pwd)
+
+work=$(mktemp -d)
+trap 'rm -rf "$work"' EXIT
+# The two programs, and the edge questions stored with the first.
+first_cycles=$(cd "$(dirname "$1")" && pwd)/$(basename "$1")
+second_cycles=$work/second_cycles
+stored=$here/../crates/cycle_vectors
+
+# Longest that one program may take, in seconds.
+patience=120
+# Fewest questions that have to be answered.
+fewest=1000000
+
+# --- Build and unit tests ---------------------------------------------------
+
+"$here/build.sh" "$work"
+for tests in unit_tests unit_tests_cycles; do
+    if ! "$work/$tests" --quiet >"$work/$tests.out" 2>&1; then
+        cat "$work/$tests.out"
+        echo "comparison: the second program's own tests fail"
+        exit 1
+    fi
+    grep 'test result' "$work/$tests.out"
+done
+
+# --- Edge questions ---------------------------------------------------------
+
+# Answers whether a file is the one stored under the name, and says where it isn't,
+# for answers with the first lines that only one of them has.
+stored_as() {
+    local file=$1 name=$2 what=$3
+    if [[ ! -f $stored/$name ]]; then
+        echo "edge questions: no file crates/cycle_vectors/$name"
+        return 1
+    fi
+    if ! cmp -s "$stored/$name" "$file"; then
+        echo "edge questions: crates/cycle_vectors/$name isn't $what"
+        if [[ $name == stdout ]]; then
+            { diff "$stored/$name" "$file" || true; } | sed -n '2,9s/^/  /p'
+        fi
+        return 1
+    fi
+}
+
+edges=true
+"$work/generate" --edge-questions >"$work/edge_questions"
+stored_as "$work/edge_questions" stdin "what the generator makes" || edges=false
+"$second_cycles" <"$work/edge_questions" >"$work/second.edges"
+stored_as "$work/second.edges" stdout "what the second program answers" || edges=false
+status=0
+timeout "$patience" "$first_cycles" <"$work/edge_questions" >"$work/first.edges" || status=$?
+stored_as "$work/first.edges" stdout "what the first program answers" || edges=false
+if ((status != 0)); then
+    echo "edge questions: the first program ends with status $status"
+    edges=false
+fi
+if [[ $edges == false ]]; then
+    echo "comparison: the edge questions or their answers are not those stored"
+    exit 1
+fi
+echo "edge questions: $(wc -l <"$work/second.edges"), answered as stored"
+
+# --- The questions of the seed ----------------------------------------------
+
+# The answers of either program.
+first_answers() {
+    "$work/generate" --questions "$seed" | timeout "$patience" "$first_cycles"
+}
+second_answers() {
+    "$work/generate" --questions "$seed" | "$second_cycles"
+}
+
+status=0
+{ first_answers || echo $? >"$work/status"; } 2>"$work/errors" |
+    cmp -s - <(second_answers) || status=$?
+if ((status != 0)); then
+    # The first ten that differ, and how many there are.
+    paste -d '\n' <(first_answers 2>"$work/errors") <(second_answers) | awk -v seed="$seed" '
+        NR % 2 == 1 { first = $0; next }
+        first "" == $0 "" { next }
+        ++differing <= 10 {
+            print "differs: question " NR / 2 " of seed " seed
+            print "  first program:  " (first == "" ? "(nothing more)" : first)
+            print "  second program: " ($0 == "" ? "(nothing more)" : $0)
+        }
+        END { print NR / 2 " questions, " differing + 0 " differ" }
+    ' >"$work/differing"
+    sed '$d' "$work/differing"
+    if [[ -s $work/errors ]]; then
+        echo "  the first program says: $(head -n 1 "$work/errors")"
+    fi
+    echo "comparison: $(tail -n 1 "$work/differing")"
+    exit 1
+fi
+if [[ -e $work/status ]]; then
+    echo "the first program ends with status $(<"$work/status"); $(head -n 1 "$work/errors")"
+    echo "comparison: the answers agree, but the first program fails"
+    exit 1
+fi
+
+# --- What came up -----------------------------------------------------------
+
+covered=true
+second_answers | awk -v fewest="$fewest" -v total="$work/total" '
+    function known(name) {
+        order[++names] = name
+        count[name] = 0
+    }
+    BEGIN {
+        known("cycle time")
+        known("nanosecond")
+        for (i = 61; i <= 63; i++) known("nanosecond refused " i)
+        # A question has no room for a frame that is refused 2.
+        for (i = 1; i <= 14; i++) if (i != 2) known("frame refused " i)
+        known("frame refused 62")
+        split("none late ahead", kinds)
+        for (i = 1; i <= 3; i++) known("frame " kinds[i])
+        split("-24576 -1 0 1 24575", offsets)
+        for (i = 1; i <= 5; i++) known("offset=" offsets[i])
+        known("no question")
+        answered = others = 0
+    }
+    function came(name) {
+        if (name in count) count[name]++
+        else others++
+    }
+    $0 == "no question" { came($0); next }
+    { answered++ }
+    /^ns=/ && NF == 6 { came("cycle time"); next }
+    /^seconds=/ && NF == 5 && $4 ~ /^ns=/ { came("nanosecond"); next }
+    /^seconds=/ && NF == 9 && $4 $5 == "nsrefused" && $7 $8 == "sytrefused" && $6 == $9 {
+        came("nanosecond refused " $6)
+        next
+    }
+    /^L=/ && NF == 5 && $4 == "refused" { came("frame refused " $5); next }
+    /^L=/ && NF == 5 && $4 == "none" && $5 == "offset=0" { came("frame none"); next }
+    /^L=/ && NF == 5 && $4 == ($5 ~ /-/ ? "late" : "ahead") {
+        came("frame " $4)
+        if ($5 in count) count[$5]++
+        next
+    }
+    { others++ }
+    END {
+        failed = 0
+        for (i = 1; i <= names; i++) {
+            printf "  %-28s %d\n", order[i], count[order[i]]
+            if (count[order[i]] == 0) {
+                print "not covered: " order[i]
+                failed = 1
+            }
+        }
+        printf "  %-28s %d (none may come up)\n", "any other line", others
+        if (others > 0) failed = 1
+        if (answered < fewest) {
+            print "too few questions: " answered ", and " fewest " are the fewest"
+            failed = 1
+        }
+        print NR >total
+        exit failed
+    }
+' || covered=false
+
+questions=$(<"$work/total")
+if [[ $covered == false ]]; then
+    echo "comparison: $questions questions agree, but not all that must come up did"
+    exit 1
+fi
+echo "comparison: $questions questions, 0 differ"
