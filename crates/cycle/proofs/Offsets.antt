@@ -96,14 +96,14 @@ module _ (tick due : Ticks) where
   held-is : law.held half s ≡ cycleOffset tick due
   held-is = law.held-at half s (omega arith) (omega arith) ∙ sym (offset-at tick due)
 
-  pub late : s < half → record { kind = Late; offset = law.held half s } ≡ timedBy (cycleOffset tick due)
+  pub late : s < half → record { kind = Late; offset = record { 0 = law.held half s } } ≡ timedBy (cycleOffset tick due)
   unfolding timedBy
   late h =
       let kind : side (cycleOffset tick due) ≡ Late = ap side (offset-at tick due ∙ sub-lt s half h) in
-      λ i. record { kind = sym kind i; offset = held-is i }
+      λ i. record { kind = sym kind i; offset = record { 0 = held-is i } }
 
-  pub ahead : half ≤ s → record { kind = Ahead; offset = law.held half s } ≡ timedBy (cycleOffset tick due)
+  pub ahead : half ≤ s → record { kind = Ahead; offset = record { 0 = law.held half s } } ≡ timedBy (cycleOffset tick due)
   unfolding timedBy
   ahead h =
       let kind : side (cycleOffset tick due) ≡ Ahead = ap side (offset-at tick due ∙ sub-le s half h) in
-      λ i. record { kind = sym kind i; offset = held-is i }
+      λ i. record { kind = sym kind i; offset = record { 0 = held-is i } }

@@ -39,14 +39,14 @@ side (negsuc n) = Late
 side (pos n) = Ahead
 
 unfoldable pub timedBy : ℤ → CycleTiming
-timedBy d = record { kind = side d; offset = d }
+timedBy d = record { kind = side d; offset = record { 0 = d } }
 
 -- "SYT 0xFFFF, SPH 1 or SID 63 gives none and 0"
 unfoldable pub givesNone : Cip → Bool
 givesNone cip = eqb (cip .«low_half») 0xFFFF || cip .sph || eqb (cip .sid) 63
 
 abbrev pub untimed : CycleTiming
-untimed = record { kind = None; offset = pos 0 }
+untimed = record { kind = None; offset = record { 0 = pos 0 } }
 
 -- ---- The answer: a number, 0 where the frame is not refused, and kind and offset, none and 0 where it is
 

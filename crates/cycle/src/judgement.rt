@@ -14,10 +14,13 @@ pub enum CycleKind {
     Ahead,
 }
 
-// How a frame's SYT stands to its arrival. The offset is in ticks: a type of its own beside `presentation::Timing`, which has nanoseconds.
+// Ticks from a frame's arrival to its SYT, below zero where the SYT lies before it. A type of its own, as the offset of a presentation
+// time is in nanoseconds.
+pub struct TickOffset(pub i64);
+
 pub struct CycleTiming {
     pub kind: CycleKind,
-    pub offset: i64,
+    pub offset: TickOffset,
 }
 
 pub enum Judgement {
@@ -54,12 +57,12 @@ fn reckon(tick: Ticks, due: Ticks) -> CycleTiming
     if distance < HALF_WRAP {
         return CycleTiming {
             kind: CycleKind::Late,
-            offset,
+            offset: TickOffset(offset),
         };
     }
     CycleTiming {
         kind: CycleKind::Ahead,
-        offset,
+        offset: TickOffset(offset),
     }
 }
 
@@ -69,7 +72,7 @@ fn judge_cip(cip: Cip, arrival_time: Nanoseconds) -> Judgement
     if gives_none(cip) {
         return Judgement::Judged(CycleTiming {
             kind: CycleKind::None,
-            offset: 0,
+            offset: TickOffset(0),
         });
     }
     let cycle = (cip.low_half >> 12) as u64;
@@ -81,7 +84,7 @@ fn judge_cip(cip: Cip, arrival_time: Nanoseconds) -> Judgement
     Judgement::Judged(reckon(crate::tick_in_second(arrival_time), Ticks(due)))
 }
 
-// A frame's bytes with its arrival time L: the reader's numbers, then none, then 62, then late or ahead. No table is asked.
+// A frame's bytes with the time of its arrival: the reader's numbers, then none, then 62, then late or ahead. No table is asked.
 pub fn judge(frame: &[u8], arrival_time: Nanoseconds) -> Judgement
     ensures { λ r. ⌜ judgementAnswer r ≡ judgement (now (frame .entry)) «arrival_time» ⌝ }
 {

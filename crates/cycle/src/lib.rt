@@ -1,6 +1,7 @@
 // Cycle time of IEEE 1394, for streams that come through a gateway (request #101): times of the network's clock in nanoseconds, times of
 // the cycle clock in ticks, and a frame judged by its SYT. The clocks are two types, and only conversions cross between them:
-// `to_cycle_time` and `to_ticks` one way, by `tick_in_second`, and `to_nanoseconds` the other, by `first_nanosecond`.
+// one way `to_cycle_time`, `to_ticks` and the judgement's own look at the time of arrival, all by `tick_in_second`; the other way
+// `to_nanoseconds`, by `first_nanosecond`.
 pub mod judgement;
 
 use refusal::Refusal;
@@ -13,8 +14,8 @@ ghost use Rattle.cycle.specs.CycleTime.{tickInSecond, cycleTimeOf, ticks
 // A time of the network's clock.
 pub struct Nanoseconds(pub u64);
 
-// A number of ticks of the cycle clock: since cycle second 0 where a call answers it, within a second or within 16 cycles where one is
-// judged.
+// Ticks of the cycle clock. `to_ticks` counts them from cycle second 0; private calls also from the start of a second, or modulo 16
+// cycles.
 pub struct Ticks(pub u64);
 
 // A time of the cycle clock by its parts. They may be out of range; the calls that take a cycle time refuse it then.
@@ -107,7 +108,7 @@ fn first_nanosecond(ticks: Ticks) -> Nanoseconds
     Nanoseconds(raised / 384)
 }
 
-// The smallest nanosecond that is not before a cycle time.
+// The smallest nanosecond that is not before a cycle time, from the start of cycle second 0 on and so below 128 seconds.
 pub fn to_nanoseconds(time: CycleTime) -> Instant
     ensures { λ r. ⌜ timeAnswer r ≡ timeAnswered time ⌝ }
 {

@@ -1,12 +1,14 @@
-// Answers questions about cycle time. Each is 64 bytes of standard input, and has a line of standard output; numbers in it are
-// little-endian.
+// Answers questions about cycle time, by every call of `cycle`. A question is 64 bytes of standard input, and has a line of standard
+// output; its numbers are little-endian.
 //
-//   byte 0   asks for                              from
-//   1        the cycle time of a nanosecond        the nanosecond at byte 2
-//   2        the nanosecond and SYT of one         seconds, cycle and offset at bytes 2, 10 and 18
-//   3        the judgement of a frame by its SYT   L at byte 2, the frame's length in byte 1, its bytes from byte 10 on
+//   byte 0   asks for                               from
+//   1        the cycle time of a nanosecond         the nanosecond at byte 2
+//   2        the nanosecond and SYT of a cycle time seconds, cycle and offset at bytes 2, 10 and 18
+//   3        the judgement of a frame by its SYT    the arrival time at byte 2, the frame's length, up to 54, in byte 1, and the frame
+//                                                   from byte 10 on
 //
-// What is stored beside it are the edges; the questions of the long comparison are asked the same way.
+// Whatever else comes is answered `no question`. `stdin` and `stdout` beside this folder hold the edges; the long comparison asks in the
+// same way.
 use cycle::CycleTime;
 use cycle::Instant;
 use cycle::Nanoseconds;
@@ -85,7 +87,7 @@ fn put_judgement(out: &mut [u8], at: usize, judgement: Judgement) -> usize {
             let kind = timing.kind;
             let named = put_kind(out, at, kind);
             let offset = text::put(out, named, b" offset=");
-            text::put_signed(out, offset, timing.offset)
+            text::put_signed(out, offset, timing.offset.0)
         }
         Judgement::Refused(refusal) => put_refusal(out, at, refusal),
     }
@@ -160,8 +162,10 @@ fn answer_all(questions: &[u8]) {
     }
 }
 
+// The buffer holds whole questions.
 fn main() {
     let mut questions = io::large_buffer();
+    // More turns than any input needs: a loop has to end.
     let mut turns = u64::MAX;
     while turns > 0 {
         let n = io::read_full(STDIN_FILENO, &mut questions);

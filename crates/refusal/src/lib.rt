@@ -1,4 +1,4 @@
-// Every reason for which a call of the analyser answers a number of document 01, those of the requests among them.
+// Every reason for which a call of the analyser answers a number of document 01 or of a request of document 02.
 ghost use mathlib.Core.Path.{_≡_};
 ghost use Rattle.refusal.specs.Refusals.{numberOf};
 

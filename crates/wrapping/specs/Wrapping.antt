@@ -1,5 +1,5 @@
--- How far a reading T of a clock that wraps lies from a reading L, over half a wrap: the law of the presentation time (document 01) and
--- of the cycle offset (request #101). Each has its own statement, with its own numbers, and cites this one in its proof.
+-- How far a reading T of a clock that wraps lies from a reading L, by half a wrap: the law of the presentation time (document 01), whose
+-- own statements stand in `presentation`, and of the cycle offset (request #101).
 use Prim.Native.Nat.{ℕ, _+_, _-_, _%_, _<_}
 use mathlib.Core.Path.{_≡_}
 use lib.IntN.{ℤ, pos, negsuc, negℤ, _+ℤ_, _-ℤ_, _*ℤ_}
