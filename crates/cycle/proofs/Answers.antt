@@ -67,7 +67,7 @@ syt-below c e = let p = parts c e in omega arith
 -- ---- a frame by its SYT
 
 -- the lowest twelve bits
-pub offset-field : (n : ℕ) → bitAnd n 0xfff ≡ field 1 sytRow n
+offset-field : (n : ℕ) → bitAnd n 0xfff ≡ field 1 sytRow n
 offset-field n = mask12 n ∙ ap (λ (q : ℕ). q % 4096) (sym (div-one n))
 
 pub due-tick : (n : ℕ) → n < 65536 → record { 0 = n / 4096 * 3_072 + bitAnd n 0xfff } ≡ dueTick n

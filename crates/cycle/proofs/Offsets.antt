@@ -1,5 +1,5 @@
 -- The cycle offset: the law of `wrapping` at half of 16 cycles. Assumes nothing.
-use Prim.Native.Nat.{ℕ, _+_, _-_, _*_, _/_, _%_, _≤_, _<_}
+use Prim.Native.Nat.{ℕ, _+_, _*_, _/_, _%_, _≤_, _<_}
 use mathlib.Core.List.{List}
 use mathlib.Core.Path.{_≡_, sym, ap, _∙_}
 use native.Mathlib.Omega.{arith}
@@ -12,15 +12,12 @@ use Rattle.cycle.specs.CycleTime.{tickInSecond, cycleTimeOf, ticksOf, sy
 use Rattle.cycle.specs.Judgement.{cycleOffset, dueTick, side, timedBy, judged, judgement, OneCycleOffset, SecondPlaysNoPart, SytTellsTick}
 use Rattle.cycle.proofs.Range.{parts}
 
-abbrev pub wrap : ℕ
-wrap = 49_152
-
 abbrev pub half : ℕ
 half = 24_576
 
 -- the distance of the offset from the lowest one
 abbrev pub distance : Ticks → Ticks → ℕ
-distance tick due = (due .0 + half + wrap - tick .0 % wrap) % wrap
+distance tick due = law.distance half (tick .0) (due .0)
 
 pub one-cycle-offset : OneCycleOffset
 unfolding cycleOffset

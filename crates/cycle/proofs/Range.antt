@@ -23,14 +23,14 @@ parts c e =
       seconds = ltb-false 127 (c .seconds) (none .1 .1 .0);
     }
 
-pub in-range : (c : CycleTime) → Parts c → cycleRefusal c ≡ 0
+in-range : (c : CycleTime) → Parts c → cycleRefusal c ≡ 0
 unfolding cycleRefusal cycleChecks
 in-range c p =
     none (cycleChecks c)
     (le-ltb 7_999 (c .cycle) (p .cycle), (le-ltb 3_071 (c .offset) (p .offset), (le-ltb 127 (c .seconds) (p .seconds), tt)))
 
 -- any nanosecond has a cycle time in range
-pub tick-below : (n : Nanoseconds) → tickInSecond n .0 < 24_576_000
+tick-below : (n : Nanoseconds) → tickInSecond n .0 < 24_576_000
 unfolding tickInSecond
 tick-below n = omega arith
 

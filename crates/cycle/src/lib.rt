@@ -1,7 +1,6 @@
 // Cycle time of IEEE 1394, for streams that come through a gateway (request #101): times of the network's clock in nanoseconds, times of
 // the cycle clock in ticks, and a frame judged by its SYT. The clocks are two types, and only conversions cross between them:
-// one way `to_cycle_time`, `to_ticks` and the judgement's own look at the time of arrival, all by `tick_in_second`; the other way
-// `to_nanoseconds`, by `first_nanosecond`.
+// `to_cycle_time`, `to_ticks` and `judge` one way, by `tick_in_second`, and `to_nanoseconds` the other, by `first_nanosecond`.
 pub mod judgement;
 
 use refusal::Refusal;

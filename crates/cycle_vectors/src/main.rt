@@ -1,14 +1,14 @@
 // Answers questions about cycle time, by every call of `cycle`. A question is 64 bytes of standard input, and has a line of standard
 // output; its numbers are little-endian.
 //
-//   byte 0   asks for                               from
-//   1        the cycle time of a nanosecond         the nanosecond at byte 2
-//   2        the nanosecond and SYT of a cycle time seconds, cycle and offset at bytes 2, 10 and 18
-//   3        the judgement of a frame by its SYT    the arrival time at byte 2, the frame's length, up to 54, in byte 1, and the frame
-//                                                   from byte 10 on
+//   byte 0   asks for                                  from
+//   1        the cycle time of a nanosecond            the nanosecond at byte 2
+//   2        the nanosecond and SYT of a cycle time    seconds, cycle and offset at bytes 2, 10 and 18
+//   3        the judgement of a frame by its SYT       the arrival time at byte 2, the frame's length, up to 54, in byte 1, and the
+//                                                      frame from byte 10 on
 //
-// Whatever else comes is answered `no question`. `stdin` and `stdout` beside this folder hold the edges; the long comparison asks in the
-// same way.
+// Whatever else comes is answered `no question`. `stdin` and `stdout` beside `src/` hold the edges; the long comparison asks in the same
+// way.
 use cycle::CycleTime;
 use cycle::Instant;
 use cycle::Nanoseconds;
@@ -49,6 +49,10 @@ fn put_syt(out: &mut [u8], at: usize, time: CycleTime) -> usize {
         Syt::Value(syt) => put_number(out, named, b"=", syt as u64),
         Syt::Refused(refusal) => put_refusal(out, named, refusal),
     }
+}
+
+fn put_no_question(out: &mut [u8]) -> usize {
+    text::put(out, 0, b"no question")
 }
 
 fn answer_nanosecond(out: &mut [u8], question: &[u8]) -> usize {
@@ -115,7 +119,7 @@ fn answer_frame(out: &mut [u8], arrival_time: u64, frame: &[u8]) -> usize {
 fn answer_judgement(out: &mut [u8], question: &[u8]) -> usize {
     let end = 10 + wire::byte(question, 1) as usize;
     if question.len() < end {
-        return text::put(out, 0, b"no question");
+        return put_no_question(out);
     }
     answer_frame(out, wire::le64(question, 2), &question[10..end])
 }
@@ -123,13 +127,13 @@ fn answer_judgement(out: &mut [u8], question: &[u8]) -> usize {
 // A question's line in `out`, without its line feed: the place after it.
 fn answer(out: &mut [u8], question: &[u8]) -> usize {
     if question.len() < 64 {
-        return text::put(out, 0, b"no question");
+        return put_no_question(out);
     }
     match question[0] {
         1 => answer_nanosecond(out, question),
         2 => answer_cycle_time(out, question),
         3 => answer_judgement(out, question),
-        _ => text::put(out, 0, b"no question"),
+        _ => put_no_question(out),
     }
 }
 

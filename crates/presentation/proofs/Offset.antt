@@ -1,26 +1,26 @@
 -- The offset is the one number that document 01 asks for: the law of `wrapping` at half a wrap of 32 bits. Assumes nothing.
-use Prim.Native.Nat.{ℕ, _+_, _-_, _%_}
+use Prim.Native.Nat.{ℕ, _+_, _-_}
 use mathlib.Core.Path.{_≡_, sym, ap, _∙_}
 use native.Mathlib.Omega.{arith}
-use lib.IntN.{ℤ, pos, _-ℤ_}
+use lib.IntN.{ℤ}
 use Rattle.wrapping.specs.Wrapping as wrapping
 use Rattle.wrapping.proofs.Offset as law
 use Rattle.presentation.specs.Offset.{offset, OneOffset, OffsetEdges}
 
 -- a wrap of 32 bits, and half of one
-abbrev pub wrap : ℕ
+abbrev wrap : ℕ
 wrap = 4_294_967_296
 
 abbrev pub half : ℕ
 half = 2_147_483_648
 
--- T - L + half a wrap, modulo a wrap: the distance of the offset from the lowest one
+-- the distance of the offset from the lowest one
 abbrev pub distance : ℕ → ℕ → ℕ
-distance L T = (T + half + wrap - L % wrap) % wrap
+distance = law.distance half
 
 -- the number at distance s
 abbrev pub at : ℕ → ℤ
-at s = pos s -ℤ pos half
+at = law.at half
 
 pub offset-at : (L T : ℕ) → offset L T ≡ at (distance L T)
 unfolding offset wrapping.offset

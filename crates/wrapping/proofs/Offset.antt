@@ -21,7 +21,7 @@ distance half L T = (T + half + (half + half) - L % (half + half)) % (half + hal
 abbrev pub at : ℕ → ℕ → ℤ
 at half s = pos s -ℤ pos half
 
-pub distance-lt : (half L T : ℕ) → 0 < half → distance half L T < half + half
+distance-lt : (half L T : ℕ) → 0 < half → distance half L T < half + half
 distance-lt half L T h = mod-lt (T + half + (half + half) - L % (half + half)) {m = half + half} (omega arith)
 
 pub offset-at : (half L T : ℕ) → 0 < half → offset half L T ≡ at half (distance half L T)
