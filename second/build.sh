@@ -4,8 +4,9 @@
 #
 #   build.sh OUTDIR
 #
-# Puts second_list, second_cycles, the unit tests of each (unit_tests and
-# unit_tests_cycles) and generate into OUTDIR. RUSTC may name the compiler.
+# Puts second_list, second_cycles, second_starts, the unit tests of each
+# (unit_tests, unit_tests_cycles and unit_tests_starts) and generate into OUTDIR.
+# RUSTC may name the compiler.
 set -euo pipefail
 
 if (($# != 1)); then
@@ -23,4 +24,6 @@ mkdir -p "$out"
 "$rustc" --test --edition 2021 -o "$out/unit_tests" "$here/list.rs"
 "$rustc" -O --edition 2021 -o "$out/second_cycles" "$here/cycles.rs"
 "$rustc" --test --edition 2021 -o "$out/unit_tests_cycles" "$here/cycles.rs"
+"$rustc" -O --edition 2021 -o "$out/second_starts" "$here/starts.rs"
+"$rustc" --test --edition 2021 -o "$out/unit_tests_starts" "$here/starts.rs"
 "$rustc" -O --edition 2021 -o "$out/generate" "$here/generate/main.rs"

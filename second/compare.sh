@@ -7,8 +7,10 @@
 # standard input. Both programs list COUNT captures made from SEED, and their
 # listings must agree byte for byte; some captures also go to the first program
 # through a pipe in small pieces. Then it is shown how often each thing that a
-# listing can say came up, and each that must come up has to. A capture that
-# differs is named by its number; it is made again by `generate DIR SEED COUNT`.
+# listing can say came up, and each way in which source packets can lie in a
+# frame (starts.rs says which there are), and each that must come up has to. A
+# capture that differs is named by its number; it is made again by
+# `generate DIR SEED COUNT`.
 set -euo pipefail
 
 if (($# < 1 || $# > 3)); then
@@ -41,12 +43,7 @@ patience=120
 # --- Build and unit tests ---------------------------------------------------
 
 "$here/build.sh" "$work"
-if ! "$work/unit_tests" --quiet >"$work/unit_tests.out" 2>&1; then
-    cat "$work/unit_tests.out"
-    echo "comparison: the second program's own tests fail"
-    exit 1
-fi
-grep 'test result' "$work/unit_tests.out"
+"$here/own_tests.sh" "$work"
 
 # --- Listings of files ------------------------------------------------------
 
@@ -127,6 +124,7 @@ done
 
 echo "captures: ${#captures[@]} of seed $seed, $(cat -- *.cap | wc -c) bytes;" \
     "$piped of them piped too"
+"$work/second_starts" "${captures[@]}" >"$work/starts"
 covered=true
 awk '
     function known(name) {
@@ -148,6 +146,11 @@ awk '
         known("admitted")
         known("removed")
         known("end records=0")
+        split("start first,wrap after start,several starts,dbs=0 start,no blocks", any, ",")
+        for (i = 1; i <= 5; i++) for (fn = 0; fn <= 3; fn++) known("sph fn=" fn " " any[i])
+        # With FN 0 every block opens a source packet.
+        split("start within,start last,no start,wrap up to start,dbs=0 no start", above, ",")
+        for (i = 1; i <= 5; i++) for (fn = 1; fn <= 3; fn++) known("sph fn=" fn " " above[i])
         cut = others = 0
     }
     function came(name) {
@@ -166,6 +169,7 @@ awk '
         if ($7 == "time=outside") came($8 ~ /-/ ? $7 " below 0" : $7 " past 64 bits")
         next
     }
+    $1 == "sph" { came($0); next }
     $0 == "avtp listing 1" { next }
     /^end records=[0-9]+$/ { if ($2 == "records=0") count["end records=0"]++; next }
     { others++ }
@@ -188,7 +192,7 @@ awk '
         }
         exit failed
     }
-' "$listings" || covered=false
+' "$listings" "$work/starts" || covered=false
 
 if ((${#differing[@]} > 0)); then
     echo "comparison: ${#captures[@]} captures, ${#differing[@]} differ"

@@ -38,14 +38,7 @@ fewest=1000000
 # --- Build and unit tests ---------------------------------------------------
 
 "$here/build.sh" "$work"
-for tests in unit_tests unit_tests_cycles; do
-    if ! "$work/$tests" --quiet >"$work/$tests.out" 2>&1; then
-        cat "$work/$tests.out"
-        echo "comparison: the second program's own tests fail"
-        exit 1
-    fi
-    grep 'test result' "$work/$tests.out"
-done
+"$here/own_tests.sh" "$work"
 
 # --- Edge questions ---------------------------------------------------------
 

@@ -19,7 +19,7 @@
 //!
 //! Build: `build.sh OUTDIR`.
 
-#[allow(dead_code)] // nothing is asked about a stream's format
+#[allow(dead_code)] // nothing is asked about a stream's format or its blocks
 mod cip;
 mod cycle;
 mod frame;

@@ -8,7 +8,7 @@ use crate::frame::Frame;
 pub enum TimeKind {
     /// The frame carries no stamp.
     None,
-    /// The payload is too short for the stamp it should start with.
+    /// With SPH 1, the payload has bytes, but fewer than a stamp.
     Cut,
     /// The time is below 0 or past 64 bits.
     Outside,
@@ -58,29 +58,35 @@ impl Presentation {
         }
     }
 
-    /// The presentation time of an accepted frame. With SPH 1 the stamp is the
-    /// first source packet header, otherwise the AVTP timestamp if it is valid.
+    /// The presentation time of an accepted frame. With SPH 1 the stamp opens the
+    /// first source packet that starts in the frame, and tv isn't read; otherwise
+    /// it is the AVTP timestamp if that is valid.
     pub fn of_frame(frame: &Frame, arrival: u64) -> Presentation {
-        if !frame.cip.sph {
-            if frame.tv {
-                Presentation::of_stamp(frame.timestamp, arrival)
-            } else {
-                Presentation::without_time(TimeKind::None)
-            }
-        } else if let Some(stamp) = frame.payload.first_chunk() {
-            Presentation::of_stamp(u32::from_be_bytes(*stamp), arrival)
-        } else if frame.payload.is_empty() {
-            Presentation::without_time(TimeKind::None)
-        } else {
-            Presentation::without_time(TimeKind::Cut)
+        let stamp = match (frame.cip.sph, frame.payload.len()) {
+            (false, _) => frame.tv.then_some(frame.timestamp),
+            (true, 1..=3) => return Presentation::without_time(TimeKind::Cut),
+            (true, _) => source_packet_stamp(frame),
+        };
+        match stamp {
+            Some(stamp) => Presentation::of_stamp(stamp, arrival),
+            None => Presentation::without_time(TimeKind::None),
         }
     }
+}
+
+/// The stamp of the first source packet that starts in the frame: the first four
+/// bytes of the first block whose count opens one.
+fn source_packet_stamp(frame: &Frame) -> Option<u32> {
+    let (_, block) = frame
+        .cip
+        .counted_blocks(frame.payload)
+        .find(|&(count, _)| frame.cip.opens_source_packet(count))?;
+    block.first_chunk().map(|stamp| u32::from_be_bytes(*stamp))
 }
 
 #[cfg(test)]
 mod tests {
     use super::*;
-    use crate::cip::Cip;
     use crate::frame::parse_frame;
     use crate::refusal::Refusal;
     use crate::samples::{sound, stamped, with};
@@ -113,25 +119,119 @@ mod tests {
         assert_eq!(time(0, (1 << 31) - 1), (TimeKind::Late, -i32::MAX, 0));
     }
 
+    /// A frame with SPH 1, FN, DBC and DBS, whose block `i` opens with stamp 1000 + i.
+    fn of_blocks(fraction: u8, dbc: u8, dbs: u8, blocks: usize) -> Vec<u8> {
+        let size = if dbs == 0 { 1024 } else { 4 * usize::from(dbs) };
+        let mut payload = vec![0xEE; blocks * size];
+        for (block, stamp) in payload.chunks_exact_mut(size).zip(1000u32..) {
+            block[..4].copy_from_slice(&stamp.to_be_bytes());
+        }
+        with(with(with(sound(1, &payload), 43, dbs), 44, fraction << 6 | 4), 45, dbc)
+    }
+
+    /// The block whose stamp is taken; nothing where the kind is none.
+    fn taken(fraction: u8, dbc: u8, dbs: u8, blocks: usize) -> Option<i32> {
+        match of_bytes(&of_blocks(fraction, dbc, dbs, blocks), 1000) {
+            (TimeKind::None, 0, 0) => None,
+            (TimeKind::Ahead, i, time) if time == 1000 + i as u64 => Some(i),
+            other => panic!("{other:?}"),
+        }
+    }
+
     #[test]
-    fn source_packet_header() {
-        let present = |frame: Vec<u8>| of_bytes(&frame, 1000);
-        // SPH 1: the stamp is in the payload, and tv isn't read.
-        let packet = with(sound(1, &[0, 0, 4, 0]), 44, 4);
-        assert_eq!(present(packet.clone()), (TimeKind::Ahead, 24, 1024));
-        assert_eq!(present(with(packet, 19, 0x80)), (TimeKind::Ahead, 24, 1024));
-        assert_eq!(present(with(sound(1, &[]), 44, 4)), (TimeKind::None, 0, 0));
-        // SPH 0 and tv 0: no stamp.
-        assert_eq!(present(with(sound(1, &[0, 0, 4, 0]), 19, 0x80)), (TimeKind::None, 0, 0));
+    fn the_first_block_that_opens_a_source_packet() {
+        // Every DBC with FN 0 to 3; the packet that the frame begins in goes on for
+        // `before` blocks.
+        for (fraction, packet) in [(0, 1), (1, 2), (2, 4), (3, 8)] {
+            for dbc in 0..=255 {
+                let before = (0..packet).find(|i| (usize::from(dbc) + i) % packet == 0).unwrap();
+                for blocks in 0..=before + 2 * packet {
+                    let first = (blocks > before).then_some(before as i32);
+                    assert_eq!(taken(fraction, dbc, 2, blocks), first, "FN {fraction}, DBC {dbc}");
+                }
+            }
+        }
+    }
+
+    #[test]
+    fn begins_in_the_middle_of_a_source_packet() {
+        assert_eq!(taken(1, 7, 6, 4), Some(1));
+        assert_eq!(taken(2, 9, 6, 5), Some(3));
+        assert_eq!(taken(3, 13, 6, 6), Some(3));
+        // The start is in the last block.
+        assert_eq!(taken(3, 9, 6, 8), Some(7));
+        // Several starts: the first counts.
+        assert_eq!(taken(1, 7, 6, 8), Some(1));
+        assert_eq!(taken(3, 15, 6, 20), Some(1));
+        assert_eq!(taken(3, 16, 6, 20), Some(0));
+    }
+
+    #[test]
+    fn no_source_packet_starts() {
+        assert_eq!(taken(1, 1, 6, 1), None);
+        assert_eq!(taken(2, 2, 6, 2), None);
+        assert_eq!(taken(3, 9, 6, 7), None);
+        for fraction in 0..=3 {
+            assert_eq!(taken(fraction, 0, 6, 0), None);
+            assert_eq!(taken(fraction, 0, 0, 0), None);
+        }
+    }
+
+    #[test]
+    fn dbc_wraps_before_the_start() {
+        assert_eq!(taken(1, 255, 1, 2), Some(1));
+        assert_eq!(taken(2, 254, 1, 3), Some(2));
+        assert_eq!(taken(3, 249, 1, 8), Some(7));
+        assert_eq!(taken(3, 249, 1, 7), None);
+        // It wraps after the start, and over 256 blocks.
+        assert_eq!(taken(3, 247, 1, 367), Some(1));
+    }
+
+    #[test]
+    fn dbs_0_is_one_block() {
+        assert_eq!(taken(0, 5, 0, 1), Some(0));
+        assert_eq!(taken(3, 8, 0, 1), Some(0));
+        assert_eq!(taken(3, 9, 0, 1), None);
+        assert_eq!(taken(1, 255, 0, 1), None);
+    }
+
+    #[test]
+    fn tv_only_counts_with_sph_0() {
+        let tv_0 = |frame| of_bytes(&with(frame, 19, 0x80), 1000);
+        assert_eq!(tv_0(of_blocks(1, 7, 1, 2)), (TimeKind::Ahead, 1, 1001));
+        assert_eq!(tv_0(of_blocks(1, 7, 1, 1)), (TimeKind::None, 0, 0));
+        assert_eq!(tv_0(stamped(sound(1, &[0, 0, 4, 0]), 1024)), (TimeKind::None, 0, 0));
+        // With tv 1, the AVTP timestamp doesn't stand in for a stamp.
+        let tv_1 = |frame| of_bytes(&stamped(frame, 1500), 1000);
+        assert_eq!(tv_1(of_blocks(1, 7, 1, 2)), (TimeKind::Ahead, 1, 1001));
+        assert_eq!(tv_1(of_blocks(1, 7, 1, 1)), (TimeKind::None, 0, 0));
+        assert_eq!(tv_1(of_blocks(1, 7, 1, 0)), (TimeKind::None, 0, 0));
+    }
+
+    #[test]
+    fn payloads_that_no_accepted_frame_has() {
         // A broken block is refused before a stamp could be cut.
         let broken = with(sound(1, &[0, 0, 4]), 44, 4);
         assert_eq!(parse_frame(&broken), Err(Refusal::BrokenBlock));
-        let cut = sound(1, &[1, 2, 3, 4]);
-        let cut = Frame { payload: &[1, 2, 3], ..parse_frame(&cut).unwrap() };
-        let cut = Frame { cip: Cip { sph: true, ..cut.cip }, ..cut };
-        assert_eq!(
-            Presentation::of_frame(&cut, 1000),
-            Presentation { kind: TimeKind::Cut, offset: 0, time: 0 }
-        );
+        let kind = |frame: &[u8], payload: &[u8]| {
+            let frame = Frame { payload, ..parse_frame(frame).unwrap() };
+            let Presentation { kind, offset, time } = Presentation::of_frame(&frame, 0);
+            assert_eq!(u64::from(offset.unsigned_abs()), time);
+            (kind, time)
+        };
+        let payload = [0, 0, 0, 1, 0, 0, 0, 2, 0, 0, 0, 3];
+        for dbc in 0..=8 {
+            for length in 1..=3 {
+                let frame = of_blocks(3, dbc, 2, 0);
+                assert_eq!(kind(&frame, &payload[..length]), (TimeKind::Cut, 0));
+            }
+        }
+        // With SPH 0 the payload isn't read.
+        assert_eq!(kind(&sound(1, &[]), &payload[..3]), (TimeKind::Ahead, 0));
+        // Only whole blocks count.
+        assert_eq!(kind(&of_blocks(0, 0, 2, 0), &payload[..7]), (TimeKind::None, 0));
+        assert_eq!(kind(&of_blocks(0, 0, 2, 0), &payload[..9]), (TimeKind::Ahead, 1));
+        assert_eq!(kind(&of_blocks(1, 1, 2, 0), &payload), (TimeKind::None, 0));
+        assert_eq!(kind(&of_blocks(1, 1, 1, 0), &payload), (TimeKind::Ahead, 2));
     }
 }

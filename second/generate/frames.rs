@@ -117,12 +117,21 @@ impl Frame {
         self.payload = payload;
     }
 
+    /// Blocks before the first that opens a source packet, whether or not the frame
+    /// has so many.
+    pub fn blocks_before_start(&self) -> usize {
+        usize::from(self.dbc.wrapping_neg() % (1 << self.fraction))
+    }
+
     /// Sets the stamp where the frame has one.
     pub fn stamp(&mut self, stamp: u32) {
         if !self.sph {
             self.timestamp = stamp;
-        } else if let Some(header) = self.payload.first_chunk_mut() {
-            *header = stamp.to_be_bytes();
+            return;
+        }
+        let start = self.blocks_before_start() * block_size(self.dbs);
+        if let Some(header) = self.payload.get_mut(start..start + 4) {
+            header.copy_from_slice(&stamp.to_be_bytes());
         }
     }
 

@@ -4,6 +4,7 @@ use crate::captures::SMALL;
 use crate::chance::Chance;
 use crate::edges::{admissions, blocks, lengths, records, refusals, times};
 use crate::noise::{noise, turned_bits, turned_bytes};
+use crate::source_packets::source_packets;
 use crate::traffic::{cut, long, traffic};
 
 /// The capture of this index.
@@ -26,6 +27,7 @@ pub fn capture(seed: u64, index: u64) -> Vec<u8> {
         9 => turned_bits(chance),
         10 => turned_bytes(chance),
         11 => cut(chance),
+        12 => source_packets(chance),
         _ => {
             let records = chance.within(5, 190);
             traffic(chance, SMALL, records)

@@ -28,6 +28,7 @@ mod measuring;
 mod noise;
 mod questions;
 mod senders;
+mod source_packets;
 mod ticks;
 mod times;
 mod traffic;

@@ -3,7 +3,7 @@ use libc::STDERR_FILENO;
 use program::messages;
 
 pub(crate) fn show_version() {
-    messages::write(b"avtp_list", b"avtp_list 1.0\n");
+    messages::write(b"avtp_list", b"avtp_list 1.1\n");
 }
 
 // No capture is named, and standard input is a terminal.

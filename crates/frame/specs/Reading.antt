@@ -61,6 +61,6 @@ DataIsPayload =
     (frame : List ℕ) → refusal frame ≡ 0
     → (let n = fieldsOf frame .header .stream .«data_length» in DataThere frame n × (dataOf frame n ≡ payloadOf frame))
 
--- the blocks of a payload
+-- the whole blocks of a payload
 unfoldable pub blocksOf : List ℕ → ℕ → ℕ
 blocksOf payload dbs = length payload / blockBytes dbs

@@ -89,8 +89,8 @@ fn check_stream(n: usize, s: Stream) -> Verdict
     Verdict::Passed
 }
 
-// The bytes of a block. DBS 0 stands for 256 quadlets.
-pub(crate) fn block_bytes(dbs: u8) -> usize
+// How many bytes a block has. DBS 0 stands for 256 quadlets.
+pub fn block_bytes(dbs: u8) -> usize
     ensures { λ r. ⌜ r ≡ blockBytes dbs ⌝ }
 {
     if dbs == 0 {

@@ -68,7 +68,7 @@ pub fn payload(frame: &[u8]) -> &[u8]
     data(frame, fields.header.stream.data_length)
 }
 
-// How many blocks a payload has.
+// How many whole blocks a payload has.
 pub fn blocks(payload: &[u8], dbs: u8) -> usize
     ensures { λ r. ⌜ r ≡ blocksOf (now (payload .entry)) dbs ⌝ }
 {

@@ -1,12 +1,17 @@
--- Presentation time, as document 01's section of that name has it, in its order. L is the arrival time, T the stamp, d the offset.
+-- Presentation time, as document 01's section of that name has it, in its order, and request #102 for T where SPH is 1. L is the arrival
+-- time, T the stamp, d the offset.
 use Prim.Native.Nat.{ℕ}
 use mathlib.Core.Bool.{cond}
 use mathlib.Core.List.{List}
 use lib.Dec.{eqb, ltb}
 use lib.IntN.{ℤ, pos, negsuc, _+ℤ_}
 use lib.ListN.{length}
-use Rattle.wire.specs.Numbers.{numberOr0}
+use Rattle.wire.specs.Numbers.{numberAt}
+use Rattle.frame.specs.declared.layout.Cip.{Cip}
 use Rattle.frame.specs.declared.layout.Fields.{Fields}
+use Rattle.source_packet.specs.declared.Start.{Start}
+use Rattle.source_packet.specs.declared.Start.the-variants.{Nowhere, Block}
+use Rattle.source_packet.specs.Blocks.{blockAt, firstStart}
 use Rattle.presentation.specs.declared.Kind.{Kind}
 use Rattle.presentation.specs.declared.Kind.the-variants.{None, Cut, Outside, Late, Ahead}
 use Rattle.presentation.specs.declared.Timing.{Timing}
@@ -20,20 +25,22 @@ use Rattle.presentation.specs.Offset.{offset}
 abbrev pub avtpStamp : Fields → Stamp
 avtpStamp f = cond (f .header .avtp .tv) (Present (f .header .stream .timestamp)) Absent
 
--- the first four bytes of a payload, 0 where it has fewer
-abbrev pub firstQuadlet : List ℕ → ℕ
-firstQuadlet payload = numberOr0 0 4 payload
+-- the stamp that opens a block: its first four bytes; absent where there is no such block
+abbrev pub stampAt : Cip → List ℕ → Start → Stamp
+stampAt c payload Nowhere = Absent
+stampAt c payload (Block i) = Present (numberAt 0 4 (blockAt c payload i))
 
--- where SPH is 1, T is the first four payload bytes: absent from an empty payload, cut short in one of one to three bytes
-abbrev pub sourceStamp : List ℕ → Stamp
-sourceStamp payload =
+-- where SPH is 1: absent from an empty payload, cut short in one of one to three bytes; else T is "the first four bytes of the first such
+-- block in the frame" (request #102), and absent if there is none
+unfoldable pub sourcePacketStamp : Cip → List ℕ → Stamp
+sourcePacketStamp c payload =
     cond (eqb (length payload) 0) Absent
     (cond (ltb (length payload) 4) Short
-    (Present (firstQuadlet payload)))
+    (stampAt c payload (firstStart c payload)))
 
 -- where SPH is 1, tv is not read
 unfoldable pub stampOf : Fields → List ℕ → Stamp
-stampOf f payload = cond (f .cip .sph) (sourceStamp payload) (avtpStamp f)
+stampOf f payload = cond (f .cip .sph) (sourcePacketStamp (f .cip) payload) (avtpStamp f)
 
 -- ---- the stamp against L
 

@@ -1,8 +1,10 @@
-// Presentation time: when a frame's samples are due, by its stamp and the time at which it arrived.
+// Presentation time: a frame's stamp against the time at which it arrived.
+use frame::layout::Cip;
 use frame::layout::Fields;
+use source_packet::Start;
 ghost use mathlib.Core.Path.{_≡_};
 ghost use Rattle.presentation.specs.Offset.{OneOffset, OffsetEdges};
-ghost use Rattle.presentation.specs.Presentation.{untimed, stampOf, timing, presentation};
+ghost use Rattle.presentation.specs.Presentation.{untimed, sourcePacketStamp, stampOf, timing, presentation};
 
 pub enum Kind {
     None,
@@ -72,18 +74,29 @@ pub fn reckon(arrival_time: u64, stamp: u32) -> Timing
     }
 }
 
-// Which stamp a frame has: its AVTP timestamp, or where SPH is 1 the one that opens the payload.
+// The stamp in a payload, where SPH is 1: it opens the first source packet that starts there.
+fn source_packet_stamp(cip: Cip, payload: &[u8]) -> Stamp
+    ensures { λ r. ⌜ r ≡ sourcePacketStamp cip (now (payload .entry)) ⌝ }
+{
+    if payload.len() == 0 {
+        return Stamp::Absent;
+    }
+    if payload.len() < 4 {
+        return Stamp::Short;
+    }
+    let Start::Block(i) = source_packet::first_start(cip, payload) else {
+        return Stamp::Absent;
+    };
+    let at = i * frame::checks::block_bytes(cip.dbs);
+    Stamp::Present(wire::be32(payload, at))
+}
+
+// Which stamp a frame has: its AVTP timestamp, or where SPH is 1 one in its payload.
 fn stamp_of(fields: Fields, payload: &[u8]) -> Stamp
     ensures { λ r. ⌜ r ≡ stampOf fields (now (payload .entry)) ⌝ }
 {
     if fields.cip.sph {
-        if payload.len() == 0 {
-            return Stamp::Absent;
-        }
-        if payload.len() < 4 {
-            return Stamp::Short;
-        }
-        return Stamp::Present(wire::be32(payload, 0));
+        return source_packet_stamp(fields.cip, payload);
     }
     if fields.header.avtp.tv {
         return Stamp::Present(fields.header.stream.timestamp);

@@ -1,5 +1,5 @@
 // Presentation times at zero, at both ends of the offset, at the wraps of L and T, and at both ends of the arrival time: each is
-// reckoned and printed.
+// reckoned and printed. Then which stamp is read, and from which block.
 use frame::layout::Avtp;
 use frame::layout::Cip;
 use frame::layout::Ethernet;
@@ -8,6 +8,7 @@ use frame::layout::Header;
 use frame::layout::Stream;
 use libc::STDOUT_FILENO;
 use presentation::Kind;
+use presentation::Timing;
 
 fn say(bytes: &[u8]) {
     io::write_all(STDOUT_FILENO, bytes);
@@ -41,11 +42,7 @@ fn show(arrival_time: u64, stamp: u32) {
     let timing = presentation::reckon(arrival_time, stamp);
     number(b"L=", arrival_time);
     number(b" T=", stamp as u64);
-    let k = timing.kind;
-    kind(k);
-    offset(timing.offset);
-    number(b" time=", timing.time);
-    say(b"\n");
+    show_timing(timing);
 }
 
 // The header of a sound frame with tv 0 or 1 and AVTP timestamp 1,500.
@@ -83,34 +80,57 @@ fn header(tv: bool) -> Header {
     }
 }
 
-fn fields(sph: bool, tv: bool) -> Fields {
-    Fields {
-        header: header(tv),
-        cip: Cip {
-            sid: 63,
-            dbs: 1,
-            fraction_number: 0,
-            qpc: 0,
-            sph,
-            dbc: 0,
-            fmt: 16,
-            fdf: 2,
-            low_half: 0xffff,
-        },
+fn cip(sph: bool, dbs: u8, fraction_number: u8, dbc: u8) -> Cip {
+    Cip {
+        sid: 63,
+        dbs,
+        fraction_number,
+        qpc: 0,
+        sph,
+        dbc,
+        fmt: 16,
+        fdf: 2,
+        low_half: 0xffff,
     }
 }
 
-// Which stamp is read.
-fn show_stamp(sph: bool, tv: bool, payload: &[u8]) {
-    let timing = presentation::judge_time(1000, fields(sph, tv), payload);
-    number(b"SPH=", if sph { 1 } else { 0 });
-    number(b" tv=", if tv { 1 } else { 0 });
-    number(b" payload=", payload.len() as u64);
+fn show_timing(timing: Timing) {
     let k = timing.kind;
     kind(k);
     offset(timing.offset);
     number(b" time=", timing.time);
     say(b"\n");
+}
+
+// Which stamp is read.
+fn show_stamp(sph: bool, tv: bool, payload: &[u8]) {
+    let fields = Fields {
+        header: header(tv),
+        cip: cip(sph, 1, 0, 0),
+    };
+    let timing = presentation::judge_time(1000, fields, payload);
+    number(b"SPH=", if sph { 1 } else { 0 });
+    number(b" tv=", if tv { 1 } else { 0 });
+    number(b" payload=", payload.len() as u64);
+    show_timing(timing);
+}
+
+// Which block the stamp is read from, in a payload of the first `quadlets` of some.
+fn show_start(all: &[u8], dbs: u8, fraction_number: u8, dbc: u8, quadlets: u8) {
+    let end = 4 * (quadlets as usize);
+    if all.len() < end {
+        return;
+    }
+    let fields = Fields {
+        header: header(true),
+        cip: cip(true, dbs, fraction_number, dbc),
+    };
+    let timing = presentation::judge_time(1000, fields, &all[0..end]);
+    number(b"DBS=", dbs as u64);
+    number(b" FN=", fraction_number as u64);
+    number(b" DBC=", dbc as u64);
+    number(b" quadlets=", quadlets as u64);
+    show_timing(timing);
 }
 
 fn show_marked() {
@@ -143,8 +163,40 @@ fn show_stamps() {
     show_stamp(true, true, b"\x00\x00\x03\x00\xff\xff\xff\xff");
 }
 
+fn show_starts(all: &[u8]) {
+    show_start(all, 1, 0, 0, 9);
+    show_start(all, 1, 0, 5, 9);
+    show_start(all, 1, 1, 4, 9);
+    show_start(all, 1, 1, 5, 9);
+    show_start(all, 1, 2, 5, 9);
+    show_start(all, 1, 3, 1, 9);
+    show_start(all, 1, 3, 8, 9);
+    // The last block is one, and no block is.
+    show_start(all, 1, 3, 1, 8);
+    show_start(all, 1, 3, 1, 7);
+    // The count wraps inside the frame.
+    show_start(all, 1, 3, 253, 9);
+    show_start(all, 1, 2, 255, 2);
+    show_start(all, 1, 2, 255, 1);
+    // Blocks of two quadlets: four are whole, and a half is none.
+    show_start(all, 2, 1, 1, 9);
+    show_start(all, 2, 2, 1, 9);
+    show_start(all, 2, 3, 4, 9);
+    // Blocks of 256 quadlets: none is whole.
+    show_start(all, 0, 0, 0, 9);
+    // FN that no frame has: past eight bits all of a count must be zero.
+    show_start(all, 1, 7, 121, 9);
+    show_start(all, 1, 8, 250, 9);
+    show_start(all, 1, 255, 0, 9);
+    show_start(all, 1, 255, 64, 9);
+}
+
 fn main() {
     show_marked();
     show_ends();
     show_stamps();
+    // Each quadlet is L and its own number, so that the offset shown is the number of the quadlet that was read.
+    show_starts(
+        b"\x00\x00\x03\xe8\x00\x00\x03\xe9\x00\x00\x03\xea\x00\x00\x03\xeb\x00\x00\x03\xec\x00\x00\x03\xed\x00\x00\x03\xee\x00\x00\x03\xef\x00\x00\x03\xf0",
+    );
 }
