@@ -4,7 +4,7 @@ use frame::layout::Fields;
 use source_packet::Start;
 ghost use mathlib.Core.Path.{_≡_};
 ghost use Rattle.presentation.specs.Offset.{OneOffset, OffsetEdges};
-ghost use Rattle.presentation.specs.Presentation.{untimed, sourcePacketStamp, stampOf, timing, presentation};
+ghost use Rattle.presentation.specs.Presentation.{untimed, sourcePacketStamp, timingOf, timing, presentation};
 
 pub enum Kind {
     None,
@@ -91,28 +91,29 @@ fn source_packet_stamp(cip: Cip, payload: &[u8]) -> Stamp
     Stamp::Present(wire::be32(payload, at))
 }
 
-// Which stamp a frame has: its AVTP timestamp, or where SPH is 1 one in its payload.
-fn stamp_of(fields: Fields, payload: &[u8]) -> Stamp
-    ensures { λ r. ⌜ r ≡ stampOf fields (now (payload .entry)) ⌝ }
+// The presentation time by a stamp, if there is one.
+fn timing_of(arrival_time: u64, stamp: Stamp) -> Timing
+    ensures { λ r. ⌜ r ≡ timingOf «arrival_time» stamp ⌝ }
 {
-    if fields.cip.sph {
-        return source_packet_stamp(fields.cip, payload);
-    }
-    if fields.header.avtp.tv {
-        return Stamp::Present(fields.header.stream.timestamp);
-    }
-    Stamp::Absent
-}
-
-// The presentation time of a frame with these fields and this payload: which stamp it has, and that stamp against L.
-pub fn judge_time(arrival_time: u64, fields: Fields, payload: &[u8]) -> Timing
-    ensures { λ r. ⌜ r ≡ presentation «arrival_time» fields (now (payload .entry)) ⌝ }
-{
-    match stamp_of(fields, payload) {
+    match stamp {
         Stamp::Absent => untimed(Kind::None, 0),
         Stamp::Short => untimed(Kind::Cut, 0),
         Stamp::Present(stamp) => reckon(arrival_time, stamp),
     }
+}
+
+// The presentation time of a frame with these fields and this payload: of its AVTP timestamp, or where SPH is 1 of a stamp in its payload.
+// The two are reckoned apart, so that the first, which most frames have, waits for nothing of the second.
+pub fn judge_time(arrival_time: u64, fields: Fields, payload: &[u8]) -> Timing
+    ensures { λ r. ⌜ r ≡ presentation «arrival_time» fields (now (payload .entry)) ⌝ }
+{
+    if fields.cip.sph {
+        return timing_of(arrival_time, source_packet_stamp(fields.cip, payload));
+    }
+    if fields.header.avtp.tv {
+        return reckon(arrival_time, fields.header.stream.timestamp);
+    }
+    untimed(Kind::None, 0)
 }
 
 // The offset is the one number in range for which L + d and T are equal modulo a wrap.
