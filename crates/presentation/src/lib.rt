@@ -103,7 +103,7 @@ fn timing_of(arrival_time: u64, stamp: Stamp) -> Timing
 }
 
 // The presentation time of a frame with these fields and this payload: of its AVTP timestamp, or where SPH is 1 of a stamp in its payload.
-// The two are reckoned apart, so that the first, which most frames have, waits for nothing of the second.
+// The two are reckoned apart: a stamp that is the one or the other costs two instructions more for every frame.
 pub fn judge_time(arrival_time: u64, fields: Fields, payload: &[u8]) -> Timing
     ensures { λ r. ⌜ r ≡ presentation «arrival_time» fields (now (payload .entry)) ⌝ }
 {
