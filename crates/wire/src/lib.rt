@@ -54,7 +54,7 @@ pub fn be48(s: &[u8], at: usize) -> u64
     ((be16(s, at) as u64) << 32) | (be32(s, at + 2) as u64)
 }
 
-// A stream id is read here, of a frame as of a capture's record: two halves of four bytes, joined.
+// Stream ids are read here, those of frames and those of captures: two halves of four bytes, joined.
 pub fn be64(s: &[u8], at: usize) -> u64
     ensures { λ r. ⌜ r ≡ numberOr0 at 8 (now (s .entry)) ⌝ }
 {
