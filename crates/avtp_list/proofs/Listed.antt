@@ -12,7 +12,7 @@ use Rattle.capture.specs.Walk.{ChunkWalk}
 use Rattle.table.specs.Table.{Table}
 use Rattle.lines.specs.Lines.{startLine, ending}
 use Rattle.lines.specs.Placing.{lineRoom, roomy}
-use Rattle.program.specs.Input.{between}
+use Rattle.input.specs.Input.{between}
 use Rattle.listing.specs.Listing.{Said, linesAfter, numberAfter}
 use Rattle.listing.specs.Chunks.{chunked}
 use Rattle.listing.specs.InChunks.{LentChunk, captureOf, Run, unlisted, listChunk, listChunks, ListedAs}

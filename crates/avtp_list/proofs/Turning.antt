@@ -8,10 +8,10 @@ use lib.Dec.{T}
 use lib.ListN.{length, take, drop, length-drop, length-take}
 use lib.Seq.{take-nil, take-length, take-all, take-take, drop-drop, length-take-le}
 use Rattle.table.specs.Table.{Table}
-use Rattle.program.specs.declared.input.Filled.{Filled}
-use Rattle.program.specs.declared.input.Source.{Source}
-use Rattle.program.specs.declared.input.Source.the-variants.{Open, Ended, Failed}
-use Rattle.program.specs.Input.{isOpen, between, ReadBehind}
+use Rattle.input.specs.declared.Filled.{Filled}
+use Rattle.input.specs.declared.Source.{Source}
+use Rattle.input.specs.declared.Source.the-variants.{Open, Ended, Failed}
+use Rattle.input.specs.Input.{isOpen, between, ReadBehind}
 use Rattle.listing.specs.declared.chunk.Progress.{Progress}
 use Rattle.listing.specs.Chunks.{chunked, ChunkListed}
 use Rattle.listing.proofs.InChunks.{in-chunks}

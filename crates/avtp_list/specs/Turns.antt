@@ -10,9 +10,9 @@ use Rattle.capture.specs.Walk.{ChunkWalk}
 use Rattle.stream.specs.Records.{unused}
 use Rattle.table.specs.Table.{Table}
 use Rattle.lines.specs.Lines.{startLine, ending}
-use Rattle.program.specs.declared.input.Source.{Source}
-use Rattle.program.specs.declared.input.Source.the-variants.{Open, Ended, Failed}
-use Rattle.program.specs.Input.{between}
+use Rattle.input.specs.declared.Source.{Source}
+use Rattle.input.specs.declared.Source.the-variants.{Open, Ended, Failed}
+use Rattle.input.specs.Input.{between}
 use Rattle.listing.specs.Listing.{Said, linesAfter, numberAfter}
 use Rattle.listing.specs.Chunks.{chunked}
 use Rattle.listing.specs.InChunks.{LentChunk, captureOf, unlisted, listChunks, ListedAs}

@@ -1,6 +1,5 @@
 // What the program says of itself.
 use libc::STDERR_FILENO;
-use program::messages;
 
 pub(crate) fn show_version() {
     messages::write(b"avtp_list", b"avtp_list 1.1\n");

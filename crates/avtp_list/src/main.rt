@@ -1,18 +1,13 @@
 // Lists captures: the files that the arguments name, one after the other, or standard input.
 mod help;
 
+use input::Source;
 use libc::STDERR_FILENO;
 use libc::STDIN_FILENO;
 use libc::STDOUT_FILENO;
 use lines::Placed;
-use program::formats;
-use program::input;
-use program::input::Source;
-use program::messages;
-use program::options;
-use program::options::Request;
-use program::options::Word;
-use program::progress;
+use options::Request;
+use options::Word;
 use stream::Record;
 ghost use mathlib.Core.Path.{_≡_};
 ghost use Prim.Native.Nat.{_≤_};
