@@ -1,3 +1,1 @@
-pub mod Turning
-pub mod Listed
 pub mod Written

@@ -1,104 +1,18 @@
 // Lists captures: the files that the arguments name, one after the other, or standard input.
 mod help;
 
-use input::Source;
 use libc::STDERR_FILENO;
 use libc::STDIN_FILENO;
-use libc::STDOUT_FILENO;
 use lines::Placed;
 use options::Request;
 use options::Word;
-use stream::Record;
+use turns::Stage;
+use turns::State;
 ghost use mathlib.Core.Path.{_≡_};
 ghost use Prim.Native.Nat.{_≤_};
-ghost use lib.ListN.{length, take};
 ghost use lib.Dec.{ltb};
 ghost use Rattle.lines.specs.Lines.{startLine, ending};
-ghost use Rattle.lines.specs.Placing.{lineRoom, lineAt};
-ghost use Rattle.avtp_list.specs.Turns.{stageBy, isGoing, started, InPlace, Turned, Listing};
-
-// Where a listing stands.
-enum Stage {
-    Going,
-    AllRead,
-    CannotRead,
-    CannotWrite,
-}
-
-// What a turn leaves: the table, the records listed, the place of the bytes that are not listed yet and their end, and the stage.
-struct State {
-    table: [Record; 64],
-    records: u64,
-    from: usize,
-    have: usize,
-    stage: Stage,
-}
-
-fn is_going(stage: Stage) -> bool
-    ensures { λ r. ⌜ r ≡ isGoing stage ⌝ }
-{
-    match stage {
-        Stage::Going => true,
-        Stage::AllRead => false,
-        Stage::CannotRead => false,
-        Stage::CannotWrite => false,
-    }
-}
-
-// There is more to list, or all has been read, or it cannot be.
-fn stage_of(source: Source) -> Stage
-    ensures { λ r. ⌜ r ≡ stageBy source ⌝ }
-{
-    match source {
-        Source::Open => Stage::Going,
-        Source::Ended => Stage::AllRead,
-        Source::Failed => Stage::CannotRead,
-    }
-}
-
-// Lists the whole records at the front of what has been read, and writes their lines. Where there is none, reads more.
-fn turn(fd: i32, input: &mut [u8], out: &mut [u8], s: State) -> State
-    requires { ⌜ InPlace (now input) s ⌝ }
-    ensures { λ r. ⌜ Turned (now (input .entry)) (now (out .entry)) s r (now (input .exit)) (now (out .exit)) ⌝ }
-{
-    let from = s.from;
-    let have = s.have;
-    let before = s.table;
-    let listed = listing::chunk::list_chunk_in(before, &input[from..have], out, s.records);
-    let table = listed.table;
-    let progress = listed.progress;
-    let put = progress.put;
-    let records = progress.records;
-    let used = progress.at;
-    let next = from + used;
-    if !io::write_all(STDOUT_FILENO, &out[0..put]) {
-        return State {
-            table,
-            records,
-            from: next,
-            have,
-            stage: Stage::CannotWrite,
-        };
-    }
-    if used > 0 {
-        return State {
-            table,
-            records,
-            from: next,
-            have,
-            stage: Stage::Going,
-        };
-    }
-    let filled = input::refill(fd, input, from, have);
-    let source = filled.source;
-    State {
-        table,
-        records,
-        from: 0,
-        have: filled.end,
-        stage: stage_of(source),
-    }
-}
+ghost use Rattle.lines.specs.Placing.{lineAt};
 
 // Text that was put into a buffer goes out.
 fn write_line(placed: Placed, out: &[u8]) -> bool {
@@ -126,42 +40,6 @@ fn write_ending(out: &mut [u8], records: u64, left: usize) -> bool
 {
     let lines = lines::put_ending(out, 0, left, records);
     write_line(lines, out)
-}
-
-fn start(have: usize) -> State
-    ensures { λ r. ⌜ r ≡ started have ⌝ }
-{
-    State {
-        table: table::unused_table(),
-        records: 0,
-        from: 0,
-        have,
-        stage: Stage::Going,
-    }
-}
-
-// The records of a capture of which so many bytes have been read. A proved loop has to end, so the turns are counted down from a number
-// that no run uses up.
-fn list_records(fd: i32, input: &mut [u8], have: usize, out: &mut [u8]) -> State
-    requires { ⌜ (have ≤ length (now input)) × (lineRoom ≤ length (now out)) ⌝ }
-    ensures { λ r. ⌜ (r .from ≤ r .have) × Listing (take have (now (input .entry))) (now (input .exit)) r ⌝ }
-{
-    let mut s = start(have);
-    let mut shown = progress::start();
-    let mut going = true;
-    let mut turns = u64::MAX;
-    while turns > 0 && going {
-        s = turn(fd, input, out, s);
-        let stage = s.stage;
-        going = is_going(stage);
-        // after a failure nothing is called that could hide its reason
-        if going {
-            shown = progress::tell(shown, s.records);
-        }
-        turns -= 1;
-    }
-    progress::hide(shown);
-    s
 }
 
 // The end of a listing. After a failure there is no last line. Answers whether the run goes on.
@@ -212,7 +90,7 @@ fn list(fd: i32, name: &[u8], say_name: bool) -> bool {
     if !write_start(&mut out) {
         return false;
     }
-    let s = list_records(fd, &mut input, have, &mut out);
+    let s = turns::list_records(fd, &mut input, have, &mut out);
     finish(name, &mut out, s)
 }
 

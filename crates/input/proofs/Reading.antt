@@ -76,7 +76,7 @@ module _ (from have : ℕ) (d : List ℕ) where
       (λ g e. let z : have - from ≡ 0 = omega (arith, e) in ap (λ (n : ℕ). take n (drop from d)) z)
       (λ g e. ap (λ (x : List ℕ). take (have - from) x) (drop-of-length-le d {i = from} (omega (arith, e))) ∙ take-nil (have - from))
 
-  up-to-end : between from end d ≡ between from have d
+  pub up-to-end : between from end d ≡ between from have d
   up-to-end =
       let l = length-drop from d in
       by-end

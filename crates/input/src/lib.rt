@@ -74,7 +74,8 @@ pub fn fill(fd: i32, input: &mut [u8], have: usize) -> Filled
     }
 }
 
-fn least(a: usize, b: usize) -> usize
+// The smaller of two numbers.
+pub fn least(a: usize, b: usize) -> usize
     ensures { λ r. ⌜ r ≡ cond (leb a b) a b ⌝ }
 {
     if a <= b { a } else { b }

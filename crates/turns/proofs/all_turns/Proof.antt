@@ -3,10 +3,11 @@ use native.Mathlib.Omega.{arith}
 use borrow.Author.Needs.{needs}
 use denote.Ref.{now}
 use lib.ListN.{length, take}
-use Rattle.avtp_list.specs.Turns.{InPlace, Listing}
-use Rattle.avtp_list.proofs.Listed.{out-size, at-start, after-turn}
-use Rattle.avtp_list.proofs.list_records.Statement.{statement}
-use Rattle.avtp_list.proofs.list_records.Tie as tie
+use Rattle.turns.specs.declared.Stage.the-variants.{Going}
+use Rattle.turns.specs.Turns.{InPlace, Listing}
+use Rattle.turns.proofs.Listed.{out-size, at-start, after-turn}
+use Rattle.turns.proofs.all_turns.Statement.{statement}
+use Rattle.turns.proofs.all_turns.Tie as tie
 
 abbrev Inv-loop : tie.InvT-loop
 Inv-loop fd input₀ have out₀ s₀ shown₀ going₀ turns₀ input out s shown going turns = InPlace input s × (length input ≡ length input₀) × (length out ≡ length out₀) × Listing (take have input₀) input s
@@ -17,7 +18,7 @@ abbrev μ-loop : tie.MeasureT-loop
 loop-holds : tie.Need-loop-holds Inv-loop μ-loop
 loop-holds c =
     let a = c .before .before .before .before in
-    let p = at-start (now (a .args .input)) (a .args .have) (c .before .start .ensures) (a .pre .0) in
+    let p = at-start (now (a .args .input)) (a .args .have) Going (c .before .start .ensures) refl (a .pre .0) in
     (p .0, refl, refl, p .1)
 
 loop-again : tie.Need-loop-again Inv-loop μ-loop
@@ -31,8 +32,8 @@ loop-again c =
 returns : tie.Need-returns Inv-loop μ-loop
 returns c = let inv = c .before .before .loop .inv in (inv .0 .0, inv .3)
 
-pub list-records-spec : {M : Type 1} → statement M
-list-records-spec =
+pub all-turns-spec : {M : Type 1} → statement M
+all-turns-spec =
     tie.close
     (tie.spec
     Inv-loop

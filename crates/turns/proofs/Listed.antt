@@ -1,25 +1,28 @@
 -- All turns together: what is listed is the capture that came. Assumes nothing.
 use Prim.Native.Nat.{ℕ, _+_, _-_, _≤_}
 use mathlib.Core.Path.{_≡_, refl, sym, ap, _∙_, subst}
-use mathlib.Core.Bool.{true, false}
+use mathlib.Core.Bool.{true, false, cond}
 use mathlib.Core.List.{List, [], _∷_, _++_, append-nil, append-assoc}
 use native.Mathlib.Omega.{arith}
 use borrow.Author.Tests.{le-leb}
-use lib.Dec.{T, ltb}
+use lib.Dec.{T, ltb, leb}
 use lib.ListN.{length, take, drop, take-append-drop}
-use lib.Seq.{length-sets, drop-length}
+use lib.Seq.{length-sets, length-take-le, drop-length}
 use Rattle.capture.specs.Walk.{ChunkWalk}
 use Rattle.table.specs.Table.{Table}
 use Rattle.lines.specs.Lines.{startLine, ending}
 use Rattle.lines.specs.Placing.{lineRoom, roomy}
 use Rattle.input.specs.Input.{between}
+use Rattle.input.proofs.Reading.{end, end-within, up-to-end}
 use Rattle.listing.specs.Listing.{Said, linesAfter, numberAfter}
 use Rattle.listing.specs.Chunks.{chunked}
 use Rattle.listing.specs.InChunks.{LentChunk, captureOf, Run, unlisted, listChunk, listChunks, ListedAs}
 use Rattle.listing.proofs.InChunks.{in-chunks}
-use Rattle.avtp_list.specs.declared.State.{State}
-use Rattle.avtp_list.proofs.Turning.{many}
-use Rattle.avtp_list.specs.Turns.{started, isRead, listed, InPlace, Turned, Listing}
+use Rattle.turns.specs.declared.Stage.{Stage}
+use Rattle.turns.specs.declared.Stage.the-variants.{CannotWrite}
+use Rattle.turns.specs.declared.State.{State}
+use Rattle.turns.proofs.Turning.{many}
+use Rattle.turns.specs.Turns.{started, isRead, listed, InPlace, Turned, Listing}
 
 one-more : (r : Run) (cs : List LentChunk) (c : LentChunk) → listChunks r (cs ++ (c ∷ [])) ≡ listChunk (listChunks r cs) c
 unfolding listChunks
@@ -45,9 +48,10 @@ pub out-size : {input d : List ℕ} {s r : State} {input′ d′ : List ℕ} →
 out-size {input} {d} {s} t = ap length (t .lines) ∙ length-sets d 0 (linesAfter (s .records) (listed input s (length d) .said))
 
 -- nothing has been listed yet
-pub at-start : (input : List ℕ) (have : ℕ) {s : State} → s ≡ started have → have ≤ length input → InPlace input s × Listing (take have input) input s
+pub at-start : (input : List ℕ) (have : ℕ) (stage : Stage) {s : State} → s ≡ started have stage → isRead stage ≡ false → have ≤ length input
+    → InPlace input s × Listing (take have input) input s
 unfolding listChunks captureOf
-at-start input have e h =
+at-start input have stage e unread h =
     rw e (
       (omega arith, h),
       record {
@@ -58,8 +62,8 @@ at-start input have e h =
         table = refl;
         behind = [];
         begun = (let n : have - 0 ≡ have = omega arith in ap (λ (k : ℕ). take k input) n) ∙ sym (append-nil (take have input));
-        all = λ e. absurd (subst T (sym e) tt);
-        whole = λ e. absurd (subst T (sym e) tt);
+        all = λ q. absurd (subst T (sym q ∙ unread) tt);
+        whole = λ q. absurd (subst T (sym q ∙ unread) tt);
       },
     )
 
@@ -126,3 +130,27 @@ module _ (first input d : List ℕ) (s r : State) (input′ d′ : List ℕ) (h 
         all = λ e. ap (drop (length (now-listed .rest))) (turned .ended e .1) ∙ drop-length (now-listed .rest);
         whole = all-listed;
       }
+
+-- ---- Whatever is asked for
+
+-- the bytes that have been read, as far as the input has them
+module _ (input : List ℕ) (have e : ℕ) (is : e ≡ cond (leb have (length input)) have (length input)) where
+  pub within : e ≤ length input
+  within = rw is (end-within 0 have input)
+
+  same-bytes : take e input ≡ take have input
+  same-bytes =
+      let front : (n : ℕ) → n - 0 ≡ n = λ n. omega arith in
+      ap (λ (k : ℕ). take k input) (is ∙ sym (front (end 0 have input))) ∙ up-to-end 0 have input ∙ ap (λ (k : ℕ). take k input) (front have)
+
+  -- there is no room for a line
+  pub no-room : {s : State} → s ≡ started e CannotWrite
+      → (s .from ≤ s .have) × Listing (take have input) input s × (s ≡ started (length (take have input)) CannotWrite)
+  no-room by =
+      let p = at-start input e CannotWrite by refl within in
+      let count : e ≡ length (take have input) = sym (length-take-le e input within) ∙ ap length same-bytes in
+      (p .0 .0, rw same-bytes at (p .1), by ∙ ap (λ (n : ℕ). started n CannotWrite) count)
+
+  -- there is
+  pub as-read : {input′ : List ℕ} {s : State} → Listing (take e input) input′ s → Listing (take have input) input′ s
+  as-read l = rw same-bytes at l

@@ -1,4 +1,4 @@
--- Listing a capture as it is read: one turn of the program, and all of them.
+-- Listing a capture as it is read: one turn, and all of them.
 use Prim.Native.Nat.{ℕ, _-_, _≤_, _<_}
 use mathlib.Core.Path.{_≡_}
 use mathlib.Core.Bool.{Bool, true, false}
@@ -16,9 +16,9 @@ use Rattle.input.specs.Input.{between}
 use Rattle.listing.specs.Listing.{Said, linesAfter, numberAfter}
 use Rattle.listing.specs.Chunks.{chunked}
 use Rattle.listing.specs.InChunks.{LentChunk, captureOf, unlisted, listChunks, ListedAs}
-use Rattle.avtp_list.specs.declared.Stage.{Stage}
-use Rattle.avtp_list.specs.declared.Stage.the-variants.{Going, AllRead, CannotRead, CannotWrite}
-use Rattle.avtp_list.specs.declared.State.{State}
+use Rattle.turns.specs.declared.Stage.{Stage}
+use Rattle.turns.specs.declared.Stage.the-variants.{Going, AllRead, CannotRead, CannotWrite}
+use Rattle.turns.specs.declared.State.{State}
 
 -- ---- Where a listing stands
 
@@ -43,8 +43,8 @@ isRead CannotRead = false
 isRead CannotWrite = false
 
 -- at the start, when so many bytes have been read
-abbrev pub started : ℕ → State
-started have = record { table = replicate 64 unused; records = 0; from = 0; have = have; stage = Going }
+abbrev pub started : ℕ → Stage → State
+started have stage = record { table = replicate 64 unused; records = 0; from = 0; have = have; stage = stage }
 
 -- ---- One turn
 
@@ -90,3 +90,10 @@ pub record Listing (first input : List ℕ) (s : State) : Type 0 where
   pub all : isRead (s .stage) ≡ true → later ≡ []
   pub whole : isRead (s .stage) ≡ true
       → ListedAs (captureOf chunks) (startLine ++ (listChunks unlisted chunks .text ++ ending (ltb 0 (s .have - s .from)) (s .records))) (s .table)
+
+-- nothing was read and nothing listed, since the output d has no room for a line: only the first bytes, which had been read before, are
+-- there
+pub record NothingListed (first input d : List ℕ) (s : State) (input′ d′ : List ℕ) : Type 0 where
+  pub state : s ≡ started (length first) CannotWrite
+  pub unread : input′ ≡ input
+  pub unwritten : d′ ≡ d

@@ -2,9 +2,9 @@ use mathlib.Core.Path.{refl}
 use native.Mathlib.Omega.{arith}
 use borrow.Author.Needs.{needs}
 use denote.Ref.{now}
-use Rattle.avtp_list.proofs.Turning.{went-on, read-on}
-use Rattle.avtp_list.proofs.turn.Statement.{statement}
-use Rattle.avtp_list.proofs.turn.Tie as tie
+use Rattle.turns.proofs.Turning.{went-on, read-on}
+use Rattle.turns.proofs.turn.Statement.{statement}
+use Rattle.turns.proofs.turn.Tie as tie
 
 returns : tie.Need-returns
 returns c =

@@ -15,9 +15,9 @@ use Rattle.input.specs.Input.{isOpen, between, ReadBehind}
 use Rattle.listing.specs.declared.chunk.Progress.{Progress}
 use Rattle.listing.specs.Chunks.{chunked, ChunkListed}
 use Rattle.listing.proofs.InChunks.{in-chunks}
-use Rattle.avtp_list.specs.declared.Stage.{Stage}
-use Rattle.avtp_list.specs.declared.State.{State}
-use Rattle.avtp_list.specs.Turns.{stageBy, isRead, InPlace, Turned}
+use Rattle.turns.specs.declared.Stage.{Stage}
+use Rattle.turns.specs.declared.State.{State}
+use Rattle.turns.specs.Turns.{stageBy, isRead, InPlace, Turned}
 
 drop-take : (m n : ℕ) (l : List ℕ) → drop m (take n l) ≡ take (n - m) (drop m l)
 drop-take zero n l = let e : n ≡ n - 0 = omega arith in ap (λ (k : ℕ). take k l) e
