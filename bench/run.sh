@@ -1,22 +1,26 @@
 #!/usr/bin/env bash
-# The first and the second listing program on the same captures, in one run: instructions per record (callgrind) and nanoseconds per
-# record, and the ratio of the first to the second. They run in pairs, one right after the other, and the captures come by turns (by
-# default 60 times, ten pairs each time), so that other work on the machine meets both programs and every capture. Each time is that of
-# the fastest run; the ratio of times is the median of the ratios of the pairs, which repeats better than that of the fastest runs.
-# Needs `rt`, rustc and valgrind.
+# The first and the second program on the same captures, in one run, for the listing and for the visit report: instructions per record
+# (callgrind) and nanoseconds per record, and the ratio of the first to the second. They run in pairs, one right after the other, and the
+# captures come by turns (by default 25 times, ten pairs of either kind each time), so that other work on the machine meets both programs
+# and every capture. Each time is that of the fastest run; the ratio of times is the median of the ratios of the pairs, which repeats
+# better than that of the fastest runs. Needs `rt`, rustc and valgrind.
 set -euo pipefail
 cd "$(dirname "$0")/.."
 
-turns=${1:-60}
+turns=${1:-25}
 work=$(mktemp -d)
 trap 'rm -rf "$work"' EXIT
-# the two programs, and where their listings of the same capture go
-first_list=target/bin/avtp_list
-second_list=$work/second_list
+# what is measured, and how the names of the two programs for it begin
+measured=(list report)
+first=target/bin/avtp_
+second=$work/second_
+# what they print for the same capture
 first_out=$work/first.out
 second_out=$work/second.out
 
-rt check avtp_list >"$work/check.log" 2>&1 || { cat "$work/check.log"; exit 1; }
+for what in "${measured[@]}"; do
+    rt check "avtp_$what" >"$work/check.log" 2>&1 || { cat "$work/check.log"; exit 1; }
+done
 second/build.sh "$work"
 "$work/generate" --bench "$work/captures" >/dev/null
 
@@ -30,15 +34,15 @@ once() {
 
 # two pairs of runs, in which each program is the first once: a line for each pair, with the times of both
 two_pairs() {
-    local first second
-    once "$first_list" "$1"
-    first=$took
-    once "$second_list" "$1"
-    echo "$first $took"
-    once "$second_list" "$1"
-    second=$took
-    once "$first_list" "$1"
-    echo "$took $second"
+    local what=$1 capture=$2 first_took second_took
+    once "$first$what" "$capture"
+    first_took=$took
+    once "$second$what" "$capture"
+    echo "$first_took $took"
+    once "$second$what" "$capture"
+    second_took=$took
+    once "$first$what" "$capture"
+    echo "$took $second_took"
 }
 
 fastest() {
@@ -53,27 +57,42 @@ instructions() {
     valgrind --tool=callgrind --callgrind-out-file=/dev/null "$1" "$2" 2>&1 >/dev/null | sed -n 's/.*Collected : \([0-9]*\).*/\1/p'
 }
 
-for _ in $(seq "$turns"); do
-    for capture in "$work"/captures/*; do
-        for _ in 1 2 3 4 5; do
-            two_pairs "$capture"
-        done >>"$work/$(basename "$capture").pairs"
-    done
-done
+# the file with the times of the pairs
+pairs_of() {
+    echo "$work/$(basename "$2").$1.pairs"
+}
 
-printf '%-22s | %-24s | %s\n' '' 'instructions per record' 'nanoseconds per record'
-printf '%-12s %9s | %8s %8s %6s | %8s %8s %6s\n' capture records first second ratio first second ratio
-for capture in "$work"/captures/*; do
-    "$first_list" "$capture" >"$first_out"
-    "$second_list" "$capture" >"$second_out"
+# a line of the table: what was measured, on which capture
+row() {
+    local what=$1 capture=$2 records pairs
+    "$first$what" "$capture" >"$first_out"
+    "$second$what" "$capture" >"$second_out"
     cmp "$first_out" "$second_out"
-    records=$(sed -n 's/^end records=//p' "$first_out")
-    pairs=$work/$(basename "$capture").pairs
+    records=$("${second}list" "$capture" | sed -n 's/^end records=//p')
+    pairs=$(pairs_of "$what" "$capture")
     awk -v name="$(basename "$capture" .cap)" -v n="$records" \
-        -v fi="$(instructions "$first_list" "$capture")" -v si="$(instructions "$second_list" "$capture")" \
+        -v fi="$(instructions "$first$what" "$capture")" -v si="$(instructions "$second$what" "$capture")" \
         -v ft="$(awk '{ print $1 }' "$pairs" | fastest)" -v st="$(awk '{ print $2 }' "$pairs" | fastest)" \
         -v ratio="$(awk '{ print $1 / $2 }' "$pairs" | median)" 'BEGIN {
             printf "%-12s %9d | %8.1f %8.1f %6.2f | %8.1f %8.1f %6.2f\n",
                 name, n, fi / n, si / n, fi / si, 1000 * ft / n, 1000 * st / n, ratio
         }'
+}
+
+for _ in $(seq "$turns"); do
+    for capture in "$work"/captures/*; do
+        for what in "${measured[@]}"; do
+            for _ in 1 2 3 4 5; do
+                two_pairs "$what" "$capture"
+            done >>"$(pairs_of "$what" "$capture")"
+        done
+    done
+done
+
+for what in "${measured[@]}"; do
+    printf '%-22s | %-24s | %s\n' "avtp_$what" 'instructions per record' 'nanoseconds per record'
+    printf '%-12s %9s | %8s %8s %6s | %8s %8s %6s\n' capture records first second ratio first second ratio
+    for capture in "$work"/captures/*; do
+        row "$what" "$capture"
+    done
 done

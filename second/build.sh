@@ -4,9 +4,9 @@
 #
 #   build.sh OUTDIR
 #
-# Puts second_list, second_cycles, second_starts, the unit tests of each
-# (unit_tests, unit_tests_cycles and unit_tests_starts) and generate into OUTDIR.
-# RUSTC may name the compiler.
+# Puts second_list, second_report, second_cycles, second_starts, the unit tests of
+# each (unit_tests, unit_tests_report, unit_tests_cycles and unit_tests_starts) and
+# generate into OUTDIR. RUSTC may name the compiler.
 set -euo pipefail
 
 if (($# != 1)); then
@@ -18,10 +18,13 @@ here=$(cd "$(dirname "${BASH_SOURCE[0]}")" && pwd)
 rustc=${RUSTC:-rustc}
 mkdir -p "$out"
 
-# The listing program is optimised as one whole. Else rustc cuts it up by its
-# modules, and calls from one room to another are not inlined.
-"$rustc" -O -C lto=fat --edition 2021 -o "$out/second_list" "$here/list.rs"
+# The two programs whose speed is measured are each compiled as one whole. Else
+# rustc cuts them up by their modules, and calls from one room to another are not
+# inlined.
+"$rustc" -O -C codegen-units=1 --edition 2021 -o "$out/second_list" "$here/list.rs"
 "$rustc" --test --edition 2021 -o "$out/unit_tests" "$here/list.rs"
+"$rustc" -O -C codegen-units=1 --edition 2021 -o "$out/second_report" "$here/report.rs"
+"$rustc" --test --edition 2021 -o "$out/unit_tests_report" "$here/report.rs"
 "$rustc" -O --edition 2021 -o "$out/second_cycles" "$here/cycles.rs"
 "$rustc" --test --edition 2021 -o "$out/unit_tests_cycles" "$here/cycles.rs"
 "$rustc" -O --edition 2021 -o "$out/second_starts" "$here/starts.rs"

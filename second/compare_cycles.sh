@@ -17,28 +17,14 @@ if (($# < 1 || $# > 2)); then
     exit 2
 fi
 seed=${2:-101}
-if [[ ! -f $1 || ! -x $1 ]]; then
-    echo "compare_cycles.sh: $1: no program" >&2
-    exit 2
-fi
-here=$(cd "$(dirname "${BASH_SOURCE[0]}")" && pwd)
-
-work=$(mktemp -d)
-trap 'rm -rf "$work"' EXIT
-# The two programs, and the edge questions stored with the first.
-first_cycles=$(cd "$(dirname "$1")" && pwd)/$(basename "$1")
-second_cycles=$work/second_cycles
-stored=$here/../crates/cycle_vectors
-
-# Longest that one program may take, in seconds.
-patience=120
 # Fewest questions that have to be answered.
 fewest=1000000
 
-# --- Build and unit tests ---------------------------------------------------
-
-"$here/build.sh" "$work"
-"$here/own_tests.sh" "$work"
+# shellcheck source-path=SCRIPTDIR source=comparing.sh
+source "$(dirname "${BASH_SOURCE[0]}")/comparing.sh"
+prepare "$1" second_cycles
+# The edge questions stored with the first program.
+stored=$here/../crates/cycle_vectors
 
 # --- Edge questions ---------------------------------------------------------
 
@@ -62,10 +48,10 @@ stored_as() {
 edges=true
 "$work/generate" --edge-questions >"$work/edge_questions"
 stored_as "$work/edge_questions" stdin "what the generator makes" || edges=false
-"$second_cycles" <"$work/edge_questions" >"$work/second.edges"
+"$second" <"$work/edge_questions" >"$work/second.edges"
 stored_as "$work/second.edges" stdout "what the second program answers" || edges=false
 status=0
-timeout "$patience" "$first_cycles" <"$work/edge_questions" >"$work/first.edges" || status=$?
+timeout "$patience" "$first" <"$work/edge_questions" >"$work/first.edges" || status=$?
 stored_as "$work/first.edges" stdout "what the first program answers" || edges=false
 if ((status != 0)); then
     echo "edge questions: the first program ends with status $status"
@@ -81,10 +67,10 @@ echo "edge questions: $(wc -l <"$work/second.edges"), answered as stored"
 
 # The answers of either program.
 first_answers() {
-    "$work/generate" --questions "$seed" | timeout "$patience" "$first_cycles"
+    "$work/generate" --questions "$seed" | timeout "$patience" "$first"
 }
 second_answers() {
-    "$work/generate" --questions "$seed" | "$second_cycles"
+    "$work/generate" --questions "$seed" | "$second"
 }
 
 status=0
@@ -118,11 +104,7 @@ fi
 # --- What came up -----------------------------------------------------------
 
 covered=true
-second_answers | awk -v fewest="$fewest" -v total="$work/total" '
-    function known(name) {
-        order[++names] = name
-        count[name] = 0
-    }
+second_answers | awk -v fewest="$fewest" -v total="$work/total" "$counting"'
     BEGIN {
         known("cycle time")
         known("nanosecond")
@@ -135,11 +117,7 @@ second_answers | awk -v fewest="$fewest" -v total="$work/total" '
         split("-24576 -1 0 1 24575", offsets)
         for (i = 1; i <= 5; i++) known("offset=" offsets[i])
         known("no question")
-        answered = others = 0
-    }
-    function came(name) {
-        if (name in count) count[name]++
-        else others++
+        answered = 0
     }
     $0 == "no question" { came($0); next }
     { answered++ }
@@ -153,21 +131,12 @@ second_answers | awk -v fewest="$fewest" -v total="$work/total" '
     /^L=/ && NF == 5 && $4 == "none" && $5 == "offset=0" { came("frame none"); next }
     /^L=/ && NF == 5 && $4 == ($5 ~ /-/ ? "late" : "ahead") {
         came("frame " $4)
-        if ($5 in count) count[$5]++
+        if ($5 in count) came($5)
         next
     }
-    { others++ }
+    { came("any other line") }
     END {
-        failed = 0
-        for (i = 1; i <= names; i++) {
-            printf "  %-28s %d\n", order[i], count[order[i]]
-            if (count[order[i]] == 0) {
-                print "not covered: " order[i]
-                failed = 1
-            }
-        }
-        printf "  %-28s %d (none may come up)\n", "any other line", others
-        if (others > 0) failed = 1
+        failed = !shown()
         if (answered < fewest) {
             print "too few questions: " answered ", and " fewest " are the fewest"
             failed = 1

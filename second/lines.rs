@@ -17,7 +17,7 @@ pub fn push_outcome(lines: &mut Vec<u8>, number: u64, outcome: &Outcome) {
     match outcome {
         Outcome::Frame(reception) => push_reception(lines, reception),
         Outcome::Admitted => lines.extend_from_slice(b" admitted\n"),
-        Outcome::Removed => lines.extend_from_slice(b" removed\n"),
+        Outcome::Removed(_) => lines.extend_from_slice(b" removed\n"),
     }
 }
 
@@ -106,7 +106,7 @@ mod tests {
         let mut lines = Vec::new();
         push_start(&mut lines);
         push_outcome(&mut lines, 1, &Outcome::Admitted);
-        push_outcome(&mut lines, 2, &Outcome::Removed);
+        push_outcome(&mut lines, 2, &Outcome::Removed(7));
         push_refusal(&mut lines, 3, Refusal::RecordKind);
         push_outcome(&mut lines, 4, &received(none, TimeKind::None, 0));
         push_outcome(&mut lines, 5, &received(none, TimeKind::Cut, 0));

@@ -11,10 +11,10 @@
 //! This file is the root of one program. The rooms stand beside it, a file each,
 //! under the names of the main program's crates where these have the same room;
 //! from the bottom: wire, refusal, cip, frame, presentation, stream, table,
-//! capture, outcome, lines, reading, listing. A room names only those before it.
-//! They stand here, and not in a folder of this program, so that another program
-//! over the same rooms is another root beside this one, as `cycles.rs` and
-//! `starts.rs` are: its `mod` lines name the rooms that it needs, and rustc finds
+//! capture, outcome, lines, input, reading, listing. A room names only those before
+//! it. They stand here, and not in a folder of this program, so that another program
+//! over the same rooms is another root beside this one, as `report.rs`, `cycles.rs`
+//! and `starts.rs` are: its `mod` lines name the rooms that it needs, and rustc finds
 //! them by itself. The generator has a folder to itself: it knows the layouts by
 //! itself, so that a mistake in a room here is not made there as well.
 //!
@@ -23,6 +23,7 @@
 mod capture;
 mod cip;
 mod frame;
+mod input;
 mod lines;
 mod listing;
 mod outcome;
@@ -35,24 +36,17 @@ mod stream;
 mod table;
 mod wire;
 
+use input::{called, open, STANDARD_INPUT};
 use listing::list_capture;
 use reading::{Failure, BUFFER};
 use std::ffi::{OsStr, OsString};
-use std::fs::File;
 use std::io::{self, Write};
 use std::process::ExitCode;
 
-/// The name that stands for standard input.
-const STANDARD_INPUT: &str = "-";
-
 /// Lists the capture that `name` stands for.
 fn list_named(name: &OsStr, out: &mut impl Write, buffer: &mut [u8]) -> Result<(), Failure> {
-    if name == STANDARD_INPUT {
-        list_capture(&mut io::stdin().lock(), out, buffer)
-    } else {
-        let mut file = File::open(name).map_err(Failure::Read)?;
-        list_capture(&mut file, out, buffer)
-    }
+    let mut input = open(name).map_err(Failure::Read)?;
+    list_capture(&mut input, out, buffer)
 }
 
 /// Says on standard error what went wrong with what.
@@ -72,10 +66,7 @@ fn main() -> ExitCode {
     for name in &names {
         match list_named(name, &mut out, &mut buffer) {
             Ok(()) => {}
-            Err(Failure::Read(error)) if name == STANDARD_INPUT => {
-                code = complain("standard input", error);
-            }
-            Err(Failure::Read(error)) => code = complain(&name.to_string_lossy(), error),
+            Err(Failure::Read(error)) => code = complain(&called(name), error),
             Err(Failure::Write(error)) => return complain("standard output", error),
         }
     }

@@ -9,7 +9,8 @@ use crate::table::{Reception, StreamTable};
 pub enum Outcome<'a> {
     Frame(Reception<'a>),
     Admitted,
-    Removed,
+    /// The stream of this id is removed.
+    Removed(u64),
 }
 
 /// Carries out a whole record, given without its length bytes, on the table. A
@@ -20,7 +21,7 @@ pub fn carry_out<'a>(table: &mut StreamTable, record: &'a [u8]) -> Result<Outcom
             table.receive(frame, arrival).map(Outcome::Frame)
         }
         CaptureRecord::Admit(id) => table.admit(id).map(|()| Outcome::Admitted),
-        CaptureRecord::Remove(id) => table.remove(id).map(|()| Outcome::Removed),
+        CaptureRecord::Remove(id) => table.remove(id).map(|()| Outcome::Removed(id)),
     }
 }
 
@@ -38,7 +39,7 @@ mod tests {
                     (frame.stream_id, presentation.time)
                 }
                 Outcome::Admitted => (1, 0),
-                Outcome::Removed => (2, 0),
+                Outcome::Removed(id) => (id, 0),
             })
         };
         let frame = frame_record(1000, &stamped(sound(7, &[]), 3000));
@@ -48,7 +49,7 @@ mod tests {
         assert_eq!(come_to(frame.clone()), Ok((7, 3000)));
         assert_eq!(come_to(frame_record(0, &[])), Err(Refusal::FrameTooShort));
         assert_eq!(come_to(record(4, &[])), Err(Refusal::RecordKind));
-        assert_eq!(come_to(remove_record(7)), Ok((2, 0)));
+        assert_eq!(come_to(remove_record(7)), Ok((7, 0)));
         assert_eq!(come_to(remove_record(7)), Err(Refusal::RemovedNotAdmitted));
         assert_eq!(come_to(frame), Err(Refusal::StreamNotAdmitted));
     }

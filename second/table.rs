@@ -54,6 +54,12 @@ impl StreamTable {
         Ok(())
     }
 
+    /// The records of the admitted streams, from the lowest place on.
+    #[allow(dead_code)] // a listing prints no record
+    pub fn admitted(&self) -> impl Iterator<Item = &StreamRecord> {
+        self.records.iter().filter(|record| record.in_use)
+    }
+
     /// Receives a frame that arrived at `arrival` nanoseconds. A refused frame
     /// changes nothing.
     pub fn receive<'a>(&mut self, frame: &'a [u8], arrival: u64) -> Result<Reception<'a>, Refusal> {
@@ -141,6 +147,9 @@ mod tests {
         assert_eq!(streams.admit(u64::MAX), Ok(()));
         assert_eq!(streams.records[5], StreamRecord::admitted(u64::MAX));
         assert_eq!(streams.records[9], StreamRecord::default());
+        let ids: Vec<u64> = streams.admitted().map(|record| record.id).collect();
+        let lowest = [0, 1, 2, 3, 4, u64::MAX, 6, 7, 8, 10];
+        assert_eq!((&ids[..10], ids.len()), (&lowest[..], 63));
     }
 
     #[test]

@@ -1,5 +1,8 @@
 //! Captures, put together record by record.
 
+use crate::chance::Chance;
+use std::io::{self, Write};
+
 /// Size of most captures.
 pub const SMALL: usize = 56_000;
 
@@ -9,7 +12,7 @@ pub struct Capture {
     /// No further record is put in once the capture has this many bytes.
     limit: usize,
     /// Where the last record put in starts.
-    pub last: usize,
+    last: usize,
 }
 
 impl Capture {
@@ -42,5 +45,23 @@ impl Capture {
 
     pub fn remove(&mut self, id: u64) {
         self.kind(3, &id.to_be_bytes());
+    }
+
+    /// Writes out what was put in so far, and keeps none of it.
+    pub fn write_out(&mut self, out: &mut impl Write) -> io::Result<()> {
+        out.write_all(&self.bytes)?;
+        self.bytes.clear();
+        Ok(())
+    }
+
+    /// Takes off the end of the last record, at every kind of place.
+    pub fn cut_last(&mut self, chance: &mut Chance) {
+        let whole = self.bytes.len() - self.last;
+        let kept = match chance.below(4) {
+            0 => whole - 1,
+            1 => chance.below(whole),
+            _ => chance.pick(&[1, 1, 2, 3, 4, 5, 11, 12, 13, 50, 60]).min(whole - 1),
+        };
+        self.bytes.truncate(self.last + kept);
     }
 }

@@ -6,6 +6,7 @@ use crate::edges::{admissions, blocks, lengths, records, refusals, times};
 use crate::noise::{noise, turned_bits, turned_bytes};
 use crate::source_packets::source_packets;
 use crate::traffic::{cut, long, traffic};
+use crate::visits::visits;
 
 /// The capture of this index.
 pub fn capture(seed: u64, index: u64) -> Vec<u8> {
@@ -28,6 +29,7 @@ pub fn capture(seed: u64, index: u64) -> Vec<u8> {
         10 => turned_bytes(chance),
         11 => cut(chance),
         12 => source_packets(chance),
+        13 | 14 => visits(chance),
         _ => {
             let records = chance.within(5, 190);
             traffic(chance, SMALL, records)

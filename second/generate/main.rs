@@ -2,6 +2,8 @@
 //! hostile ones, the same for the same seed; and questions about cycle time.
 //!
 //! - `generate DIR SEED COUNT` writes COUNT captures DIR/000000.cap and on.
+//! - `generate --million FILE` writes a capture with more frames of a stream than a
+//!   visit report sums.
 //! - `generate --bench DIR` writes the captures that speed is measured on.
 //! - `generate --drip FILE PIECE` writes FILE to standard output, PIECE bytes at
 //!   a time, each piece flushed.
@@ -25,6 +27,7 @@ mod edges;
 mod frames;
 mod kinds;
 mod measuring;
+mod million;
 mod noise;
 mod questions;
 mod senders;
@@ -32,6 +35,7 @@ mod source_packets;
 mod ticks;
 mod times;
 mod traffic;
+mod visits;
 
 use std::fs;
 use std::io::{self, BufWriter, Write};
@@ -73,6 +77,7 @@ fn write_questions(seed: u64) -> io::Result<()> {
 }
 
 const USAGE: &str = "usage: generate DIR SEED COUNT
+       generate --million FILE
        generate --bench DIR
        generate --drip FILE PIECE
        generate --edge-questions
@@ -87,6 +92,7 @@ fn main() -> ExitCode {
             Ok(seed) => write_questions(seed),
             Err(_) => Err(io::Error::other(USAGE)),
         },
+        ["--million", file] => million::write_million(Path::new(file)),
         ["--bench", dir] => measuring::bench_captures(Path::new(dir)),
         ["--drip", file, piece] => match piece.parse() {
             Ok(piece) => drip(Path::new(file), piece),

@@ -39,8 +39,7 @@ fn bench(
         frame.sequence = frame.sequence.wrapping_add(1);
         let blocks = frame.payload.len() / block_size(frame.dbs);
         frame.dbc = frame.dbc.wrapping_add(blocks as u8);
-        out.write_all(&capture.bytes)?;
-        capture.bytes.clear();
+        capture.write_out(&mut out)?;
     }
     out.flush()
 }

@@ -54,6 +54,17 @@ impl Sender {
         };
     }
 
+    /// Does what its frames so far don't lead to: takes up another sequence number,
+    /// block count, mr or format.
+    pub fn stray(&mut self, chance: &mut Chance) {
+        match chance.below(4) {
+            0 => self.sequence = self.sequence.wrapping_add(chance.pick(&[1, 2, 127, 254, 255])),
+            1 => self.dbc = self.dbc.wrapping_add(chance.pick(&[1, 2, 8, 128, 255])),
+            2 => self.frame.mr = !self.frame.mr,
+            _ => self.choose_format(chance),
+        }
+    }
+
     /// The next frame, as it arrives at `arrival`.
     pub fn send(&mut self, chance: &mut Chance, arrival: u64) -> Frame {
         let mut frame = self.frame.clone();

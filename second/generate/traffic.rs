@@ -16,11 +16,7 @@ fn send_with_trouble(chance: &mut Chance, capture: &mut Capture, sender: &mut Se
                 sender.send(chance, at);
             }
         }
-        // Lost numbers only.
-        1 => sender.sequence = sender.sequence.wrapping_add(chance.pick(&[1, 2, 127, 254, 255])),
-        2 => sender.dbc = sender.dbc.wrapping_add(chance.pick(&[1, 2, 8, 128, 255])),
-        3 => sender.frame.mr = !sender.frame.mr,
-        4 => sender.choose_format(chance),
+        1..=4 => sender.stray(chance),
         // A repeated frame.
         5 => {
             let frame = sender.send(chance, at).bytes();
@@ -113,13 +109,7 @@ pub fn cut(chance: &mut Chance) -> Capture {
             capture.frame(0, &frame.bytes());
         }
     }
-    let whole = capture.bytes.len() - capture.last;
-    let kept = match chance.below(4) {
-        0 => whole - 1,
-        1 => chance.below(whole),
-        _ => chance.pick(&[1, 1, 2, 3, 4, 5, 11, 12, 13, 50, 60]).min(whole - 1),
-    };
-    capture.bytes.truncate(capture.last + kept);
+    capture.cut_last(chance);
     capture
 }
 

@@ -90,7 +90,7 @@ fn list(fd: i32, name: &[u8], say_name: bool) -> bool {
     if !write_start(&mut out) {
         return false;
     }
-    let s = turns::list_records(fd, &mut input, have, &mut out);
+    let s = turns::list_records(fd, &mut input, have, &mut out, true);
     finish(name, &mut out, s)
 }
 

@@ -1,3 +1,4 @@
 pub mod Fronts
 pub mod Parts
 pub mod InChunks
+pub mod Kept

@@ -19,7 +19,7 @@ use Rattle.lines.specs.Placing.{roomy}
 use Rattle.text.proofs.Sets.{sets-append}
 use Rattle.listing.specs.declared.chunk.Progress.{Progress}
 use Rattle.listing.specs.declared.chunk.Cursor.{Cursor}
-use Rattle.listing.specs.Listing.{Said, step, linesAfter, numberAfter}
+use Rattle.listing.specs.Listing.{Said, step, ifShown, linesAfter, numberAfter}
 use Rattle.listing.specs.Chunks.{chunked, ChunkListed}
 use Rattle.listing.specs.Private.{sizeAhead, heldAhead, halted, passed, putWhole, putNext}
 use Rattle.listing.proofs.Lines.{lines-more, number-more}
@@ -38,22 +38,22 @@ stopped r = record { said = r .said; rest = r .rest; table = r .table; going = f
 abbrev stop : Run → ChunkWalk Said Table
 stop r = record { said = r .said; rest = r .rest; state = r .table }
 
-module _ (chunk : List ℕ) (t : Table) (n : ℕ) (d : List ℕ) where
+module _ (shown : Bool) (chunk : List ℕ) (t : Table) (n : ℕ) (d : List ℕ) where
   -- the cursor of a run, what is answered at its end, and the output
   abbrev pub cursorOf : Run → Cursor
-  cursorOf r = record { at = length chunk - length (r .rest); put = length (linesAfter n (r .said)); records = numberAfter n (r .said); going = r .going }
+  cursorOf r = record { at = length chunk - length (r .rest); put = length (linesAfter shown n (r .said)); records = numberAfter n (r .said); going = r .going }
 
   abbrev pub progressOf : Run → Progress
-  progressOf r = record { at = length chunk - length (r .rest); put = length (linesAfter n (r .said)); records = numberAfter n (r .said) }
+  progressOf r = record { at = length chunk - length (r .rest); put = length (linesAfter shown n (r .said)); records = numberAfter n (r .said) }
 
   abbrev pub outOf : Run → List ℕ
-  outOf r = sets d 0 (linesAfter n (r .said))
+  outOf r = sets d 0 (linesAfter shown n (r .said))
 
   abbrev pub start : Run
   start = record { said = []; rest = chunk; table = t; going = true }
 
   abbrev ready : List Said → Bool
-  ready said = roomy (length d) (length (linesAfter n said))
+  ready said = roomy (length d) (length (linesAfter shown n said))
 
   -- what a run comes to, with at most k records more
   abbrev inTurns : ℕ → Run → ChunkWalk Said Table
@@ -69,8 +69,8 @@ module _ (chunk : List ℕ) (t : Table) (n : ℕ) (d : List ℕ) where
   -- a run with k turns left
   pub record Under (k : ℕ) (r : Run) : Type 0 where
     pub shape : Shape k r
-    pub onward : inTurns k r ≡ chunked chunk t n (length d)
-    pub put : length (linesAfter n (r .said)) ≤ length d
+    pub onward : inTurns k r ≡ chunked shown chunk t n (length d)
+    pub put : length (linesAfter shown n (r .said)) ≤ length d
 
   pub starts : n < 2 ^ 64 → Under (suc (length chunk)) start
   unfolding chunked walkChunk linesAfter numberAfter
@@ -95,19 +95,19 @@ module _ (chunk : List ℕ) (t : Table) (n : ℕ) (d : List ℕ) where
   stands : (k : ℕ) (r : Run) → r .going ≡ false → stop r ≡ inTurns k r
   stands k r e = rw e
 
-  pub ends : (k : ℕ) (r : Run) → Under k r → r .going ≡ false → ChunkListed chunk t n d (progressOf r) (r .table) (outOf r)
+  pub ends : (k : ℕ) (r : Run) → Under k r → r .going ≡ false → ChunkListed shown chunk t n d (progressOf r) (r .table) (outOf r)
   ends k r u e =
       record {
         at = ap (λ (x : ChunkWalk Said Table). length chunk - length (x .rest)) all;
-        put = ap (λ (x : ChunkWalk Said Table). length (linesAfter n (x .said))) all;
+        put = ap (λ (x : ChunkWalk Said Table). length (linesAfter shown n (x .said))) all;
         records = ap (λ (x : ChunkWalk Said Table). numberAfter n (x .said)) all;
         table = ap (λ (x : ChunkWalk Said Table). x .state) all;
-        out = ap (λ (x : ChunkWalk Said Table). sets d 0 (linesAfter n (x .said))) all;
+        out = ap (λ (x : ChunkWalk Said Table). sets d 0 (linesAfter shown n (x .said))) all;
         at-within = omega arith;
         put-within = u .put;
       }
     where
-      all : stop r ≡ chunked chunk t n (length d)
+      all : stop r ≡ chunked shown chunk t n (length d)
       all = stands k r e ∙ u .onward
 
   -- ---- one turn
@@ -129,7 +129,7 @@ module _ (chunk : List ℕ) (t : Table) (n : ℕ) (d : List ℕ) where
     ahead b f = cond b f end
 
     abbrev textOf : Line → List ℕ
-    textOf line = lineText (nextNumber (numberAfter n (r .said))) line
+    textOf line = ifShown shown (lineText (nextNumber (numberAfter n (r .said))) line)
 
     -- what is said of the record, and the table afterwards
     abbrev stepped : Front → Said × Table
@@ -168,15 +168,15 @@ module _ (chunk : List ℕ) (t : Table) (n : ℕ) (d : List ℕ) where
       used : c .at + size ≡ length chunk - length (gone .rest)
       used = omega (arith, left, w .0, w .1, u .within)
 
-      more-text : linesAfter n (gone .said) ≡ linesAfter n (r .said) ++ text
-      more-text = lines-more n (r .said) x
+      more-text : linesAfter shown n (gone .said) ≡ linesAfter shown n (r .said) ++ text
+      more-text = lines-more n (r .said) x shown
 
-      more-put : c .put + length text ≡ length (linesAfter n (gone .said))
-      more-put = sym (ap length more-text ∙ length-append (linesAfter n (r .said)) text)
+      more-put : c .put + length text ≡ length (linesAfter shown n (gone .said))
+      more-put = sym (ap length more-text ∙ length-append (linesAfter shown n (r .said)) text)
 
       put-is : putWhole size text c (outOf r) ≡ (passed size (length text) c, sets (outOf r) (c .put) text)
       unfolding putWhole
-      put-is = rw (ap (λ (m : ℕ). roomy m (c .put)) (length-sets d 0 (linesAfter n (r .said))) ∙ roomy-here)
+      put-is = rw (ap (λ (m : ℕ). roomy m (c .put)) (length-sets d 0 (linesAfter shown n (r .said))) ∙ roomy-here)
 
       whole-cursor : putWhole size text c (outOf r) .0 ≡ cursorOf gone
       whole-cursor =
@@ -187,7 +187,7 @@ module _ (chunk : List ℕ) (t : Table) (n : ℕ) (d : List ℕ) where
       whole-out =
           let here : c .put ≡ 0 + c .put = omega arith in
           ap (λ (y : Cursor × List ℕ). y .1) put-is ∙ ap (λ (m : ℕ). sets (outOf r) m text) here
-          ∙ sym (sets-append (linesAfter n (r .said)) text d 0) ∙ ap (sets d 0) (sym more-text)
+          ∙ sym (sets-append (linesAfter shown n (r .said)) text d 0) ∙ ap (sets d 0) (sym more-text)
 
       whole-shape : Shape k gone
       whole-shape =
@@ -277,15 +277,15 @@ module _ (chunk : List ℕ) (t : Table) (n : ℕ) (d : List ℕ) where
           under bound =
               record {
                 shape = is-turned .shape;
-                onward = same-part k r (u .shape) b (entryOf (r .rest)) ∙ picks (r .going) on (walkChunkFrom step (suc k) ready (r .said) (r .rest) (r .table)) (stop r) (chunked chunk t n (length d)) (u .onward);
+                onward = same-part k r (u .shape) b (entryOf (r .rest)) ∙ picks (r .going) on (walkChunkFrom step (suc k) ready (r .said) (r .rest) (r .table)) (stop r) (chunked shown chunk t n (length d)) (u .onward);
                 put = omega (arith, put-in);
               }
             where
               was : length (outOf r) ≡ length d
-              was = length-sets d 0 (linesAfter n (r .said))
+              was = length-sets d 0 (linesAfter shown n (r .said))
 
               is : length (outOf onward) ≡ length d
-              is = length-sets d 0 (linesAfter n (onward .said))
+              is = length-sets d 0 (linesAfter shown n (onward .said))
 
               before : here .put ≤ length (outOf r)
               before = omega (arith, was, u .put)
@@ -293,5 +293,5 @@ module _ (chunk : List ℕ) (t : Table) (n : ℕ) (d : List ℕ) where
               moved : cursorOf onward .put ≤ length (outOf onward)
               moved = subst (λ (x : Cursor). x .put ≤ length (outOf onward)) same-cursor (subst (λ (l : List ℕ). given .0 .put ≤ length l) same-out (bound before))
 
-              put-in : length (linesAfter n (onward .said)) ≤ length d
+              put-in : length (linesAfter shown n (onward .said)) ≤ length d
               put-in = omega (arith, is, moved)

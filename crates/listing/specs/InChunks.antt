@@ -1,7 +1,7 @@
--- Listing a capture in any chunks is listing it whole.
+-- Listing a capture in any chunks is listing it whole, and so is going through it with no line shown.
 use Prim.Native.Nat.{ℕ}
 use mathlib.Core.Path.{_≡_}
-use mathlib.Core.Bool.{true}
+use mathlib.Core.Bool.{Bool, true}
 use mathlib.Core.List.{List, [], _∷_, _++_}
 use lib.Dec.{ltb}
 use lib.ListN.{length, replicate}
@@ -37,31 +37,31 @@ abbrev pub unlisted : Run
 unlisted = record { rest = []; text = []; records = 0; table = replicate 64 unused }
 
 -- a chunk behind what is left of those before it, with their table and count, and its text behind theirs
-unfoldable pub listChunk : Run → LentChunk → Run
-listChunk r c =
-    let now = chunked (r .rest ++ c .bytes) (r .table) (r .records) (c .room) in
+unfoldable pub listChunk : Bool → Run → LentChunk → Run
+listChunk shown r c =
+    let now = chunked shown (r .rest ++ c .bytes) (r .table) (r .records) (c .room) in
     record {
       rest = now .rest;
-      text = r .text ++ linesAfter (r .records) (now .said);
+      text = r .text ++ linesAfter shown (r .records) (now .said);
       records = numberAfter (r .records) (now .said);
       table = now .state;
     }
 
-unfoldable pub listChunks : Run → List LentChunk → Run
-listChunks r [] = r
-listChunks r (c ∷ cs) = listChunks (listChunk r c) cs
+unfoldable pub listChunks : Bool → Run → List LentChunk → Run
+listChunks shown r [] = r
+listChunks shown r (c ∷ cs) = listChunks shown (listChunk shown r c) cs
 
 -- ---- The claim
 
--- a capture is listed with this text and leaves this table
-pub record ListedAs (capture shown : List ℕ) (t : Table) : Type 0 where
-  pub text : listing capture ≡ shown
+-- a capture is listed with this text, where lines are shown, and leaves this table
+pub record ListedAs (shown : Bool) (capture text : List ℕ) (t : Table) : Type 0 where
+  pub listed : shown ≡ true → listing capture ≡ text
   pub table : visit capture .1 ≡ t
 
 pub record ListedInChunks : Type 0 where
   -- the whole capture, in any chunks, empty ones too, and with any room for each: once a call that had room used nothing of what is left
-  pub whole-capture : (cs : List LentChunk) (room : ℕ) → roomy room 0 ≡ true
-      → (let r = listChunks unlisted cs in length (chunked (r .rest) (r .table) (r .records) room .rest) ≡ length (r .rest)
-      → ListedAs (captureOf cs) (startLine ++ (r .text ++ ending (ltb 0 (length (r .rest))) (r .records))) (r .table))
+  pub whole-capture : (shown : Bool) (cs : List LentChunk) (room : ℕ) → roomy room 0 ≡ true
+      → (let r = listChunks shown unlisted cs in length (chunked shown (r .rest) (r .table) (r .records) room .rest) ≡ length (r .rest)
+      → ListedAs shown (captureOf cs) (startLine ++ (r .text ++ ending (ltb 0 (length (r .rest))) (r .records))) (r .table))
   -- what holds of going through a capture in chunks holds of this step
   pub walked : WalkInChunks step

@@ -1,6 +1,7 @@
 -- The whole listing of a capture (document 01, Capture and listing).
 use Prim.Native.Nat.{ℕ, _<_, _^_}
 use mathlib.Core.Path.{_≡_}
+use mathlib.Core.Bool.{Bool, true, false, cond}
 use mathlib.Core.List.{List, [], _∷_, _++_}
 use mathlib.Core.Option.{Option, none, some}
 use lib.ListN.{length, replicate}
@@ -46,10 +47,14 @@ step t bytes (removal id) = (record { stream = some id; line = changeLine (remov
 unfoldable pub visit : List ℕ → List Said × Table
 visit capture = walk step capture (replicate 64 unused)
 
--- each record has one line and is counted: the text of their lines, numbered on from n, and the number of the last
-unfoldable pub linesAfter : ℕ → List Said → List ℕ
-linesAfter n [] = []
-linesAfter n (x ∷ xs) = lineText (nextNumber n) (x .line) ++ linesAfter (nextNumber n) xs
+-- a line, where lines are shown
+abbrev pub ifShown : Bool → List ℕ → List ℕ
+ifShown shown line = cond shown line []
+
+-- each record has one line and is counted: the text of their lines, numbered on from n, where lines are shown, and the number of the last
+unfoldable pub linesAfter : Bool → ℕ → List Said → List ℕ
+linesAfter shown n [] = []
+linesAfter shown n (x ∷ xs) = ifShown shown (lineText (nextNumber n) (x .line)) ++ linesAfter shown (nextNumber n) xs
 
 unfoldable pub numberAfter : ℕ → List Said → ℕ
 numberAfter n [] = n
@@ -60,4 +65,8 @@ abbrev pub Numbered : Type 0
 Numbered = (said : List Said) → length said < 2 ^ 64 → numberAfter 0 said ≡ length said
 
 unfoldable pub listing : List ℕ → List ℕ
-listing capture = let said = visit capture .0 in startLine ++ (linesAfter 0 said ++ endLine (numberAfter 0 said))
+listing capture = let said = visit capture .0 in startLine ++ (linesAfter true 0 said ++ endLine (numberAfter 0 said))
+
+-- where no line is shown there is no text
+abbrev pub NothingShown : Type 0
+NothingShown = (n : ℕ) (said : List Said) → linesAfter false n said ≡ []

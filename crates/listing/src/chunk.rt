@@ -1,4 +1,5 @@
-// A chunk of a capture at a time: the whole records at its front, as far as the output has room for their lines.
+// A chunk of a capture at a time: the whole records at its front, as far as the output has room for their lines. Where `shown` is off no line
+// is made and the output stays as it was, for a caller who wants the table alone; it must have room for one line all the same.
 use capture::Content;
 use capture::Entry;
 use lines::Outcome;
@@ -8,17 +9,17 @@ use stream::Receipt;
 use stream::Record;
 use table::Change;
 ghost use mathlib.Core.Path.{_≡_};
-ghost use Prim.Native.Nat.{_+_, _<_, _^_};
+ghost use Prim.Native.Nat.{_+_, _<_, _≤_, _^_};
 ghost use mathlib.Core.Bool.{cond};
 ghost use mathlib.Core.List.{[]};
-ghost use lib.ListN.{drop};
+ghost use lib.ListN.{length, drop};
 ghost use Rattle.wire.specs.Numbers.{part};
 ghost use Rattle.capture.specs.Records.{heldOf, frontOf, end, entryOf};
 ghost use Rattle.stream.specs.Answers.{receiptAnswer};
 ghost use Rattle.table.specs.Table.{changeNumber};
 ghost use Rattle.lines.specs.Lines.{admitted, removed, lineOf, nextNumber, lineText};
-ghost use Rattle.lines.specs.Placing.{roomy};
-ghost use Rattle.listing.specs.Listing.{changeLine, frameLine};
+ghost use Rattle.lines.specs.Placing.{roomy, placedLine, lineAt};
+ghost use Rattle.listing.specs.Listing.{changeLine, frameLine, ifShown};
 ghost use Rattle.listing.specs.Private.{sizeAhead, heldAhead, Obeyed, halted, putWhole, putNext, Becomes};
 ghost use Rattle.listing.specs.Chunks.{ChunkListed};
 
@@ -131,13 +132,27 @@ fn stopped(c: Cursor) -> Cursor
     }
 }
 
+// The line of record number `n`, where lines are shown.
+fn put_shown(out: &mut [u8], at: usize, n: u64, outcome: Outcome, shown: bool) -> Placed
+    ensures { λ r. ⌜ placedLine r (now (out .exit)) ≡ lineAt (now (out .entry)) at (ifShown shown (lineText n (lineOf outcome))) ⌝ }
+    ensures { λ r. ⌜ placedLine r (now (out .exit)) .end ≤ length (now (out .exit)) ⌝ }
+{
+    if shown {
+        return lines::put_record(out, at, n, outcome);
+    }
+    if lines::roomy(out.len(), at) {
+        return Placed::UpTo(at);
+    }
+    Placed::NoRoom
+}
+
 // The line of a record of this size.
-fn put_whole(out: &mut [u8], c: Cursor, size: usize, outcome: Outcome) -> Cursor
+fn put_whole(out: &mut [u8], c: Cursor, size: usize, outcome: Outcome, shown: bool) -> Cursor
     requires { ⌜ c .at + size < 2 ^ 64 ⌝ }
-    ensures { λ r. ⌜ Becomes (putWhole size (lineText (nextNumber (c .records)) (lineOf outcome)) c (now (out .entry))) c (now (out .entry)) r (now (out .exit)) ⌝ }
+    ensures { λ r. ⌜ Becomes (putWhole size (ifShown shown (lineText (nextNumber (c .records)) (lineOf outcome))) c (now (out .entry))) c (now (out .entry)) r (now (out .exit)) ⌝ }
 {
     let records = std::num::wrapping_add_u64(c.records, 1);
-    match lines::put_record(out, c.put, records, outcome) {
+    match put_shown(out, c.put, records, outcome, shown) {
         Placed::NoRoom => stopped(c),
         Placed::UpTo(end) => Cursor {
             at: c.at + size,
@@ -149,14 +164,20 @@ fn put_whole(out: &mut [u8], c: Cursor, size: usize, outcome: Outcome) -> Cursor
 }
 
 // The line of a record that is whole.
-pub(crate) fn put_next(out: &mut [u8], c: Cursor, entry: Entry, outcome: Outcome) -> Cursor
+pub(crate) fn put_next(
+    out: &mut [u8],
+    c: Cursor,
+    entry: Entry,
+    outcome: Outcome,
+    shown: bool,
+) -> Cursor
     requires { ⌜ c .at + sizeAhead (frontOf entry) < 2 ^ 64 ⌝ }
-    ensures { λ r. ⌜ Becomes (putNext (frontOf entry) (lineText (nextNumber (c .records)) (lineOf outcome)) c (now (out .entry))) c (now (out .entry)) r (now (out .exit)) ⌝ }
+    ensures { λ r. ⌜ Becomes (putNext (frontOf entry) (ifShown shown (lineText (nextNumber (c .records)) (lineOf outcome))) c (now (out .entry))) c (now (out .entry)) r (now (out .exit)) ⌝ }
 {
     match entry {
         Entry::End => stopped(c),
         Entry::Cut => stopped(c),
-        Entry::Whole { size, content: _ } => put_whole(out, c, size, outcome),
+        Entry::Whole { size, content: _ } => put_whole(out, c, size, outcome, shown),
     }
 }
 
@@ -191,8 +212,9 @@ pub(crate) fn list_chunk(
     chunk: &[u8],
     out: &mut [u8],
     records: u64,
+    shown: bool,
 ) -> Progress
-    ensures { λ r. ⌜ ChunkListed (now (chunk .entry)) (now (table .entry)) records (now (out .entry)) r (now (table .exit)) (now (out .exit)) ⌝ }
+    ensures { λ r. ⌜ ChunkListed shown (now (chunk .entry)) (now (table .entry)) records (now (out .entry)) r (now (table .exit)) (now (out .exit)) ⌝ }
 {
     let mut c = Cursor {
         at: 0,
@@ -205,7 +227,7 @@ pub(crate) fn list_chunk(
         let record = record_of(chunk, c.at, entry);
         let content = content_of(entry);
         let outcome = obey(table, record, content);
-        let next = put_next(out, c, entry, outcome);
+        let next = put_next(out, c, entry, outcome, shown);
         c = next;
     }
     Progress {
@@ -223,11 +245,17 @@ pub struct Listed {
 
 // The whole records at the front of the chunk, as far as the output has room for their lines, with a table of 64 records by value.
 // `records` were listed before.
-pub fn list_chunk_in(table: [Record; 64], chunk: &[u8], out: &mut [u8], records: u64) -> Listed
-    ensures { λ r. ⌜ ChunkListed (now (chunk .entry)) table records (now (out .entry)) (r .progress) (r .table) (now (out .exit)) ⌝ }
+pub fn list_chunk_in(
+    table: [Record; 64],
+    chunk: &[u8],
+    out: &mut [u8],
+    records: u64,
+    shown: bool,
+) -> Listed
+    ensures { λ r. ⌜ ChunkListed shown (now (chunk .entry)) table records (now (out .entry)) (r .progress) (r .table) (now (out .exit)) ⌝ }
 {
     let mut lent = table;
-    let progress = list_chunk(&mut lent, chunk, out, records);
+    let progress = list_chunk(&mut lent, chunk, out, records, shown);
     Listed {
         table: lent,
         progress,

@@ -1,7 +1,7 @@
 // The listing of a capture, a chunk at a time.
 pub mod chunk;
 
-ghost use Rattle.listing.specs.Listing.{Numbered};
+ghost use Rattle.listing.specs.Listing.{Numbered, NothingShown};
 ghost use Rattle.listing.specs.InChunks.{ListedInChunks};
 ghost use Rattle.listing.specs.Example.{WorkedExample};
 
@@ -13,6 +13,11 @@ fn worked_example()
 // Records are numbered from 1, and the last line has how many there are.
 fn numbered()
     ensures { λ _. ⌜ Numbered ⌝ }
+{}
+
+// Where no line is shown there is no text.
+fn nothing_shown()
+    ensures { λ _. ⌜ NothingShown ⌝ }
 {}
 
 // Listing a capture in any chunks is listing it whole.

@@ -1,14 +1,11 @@
 -- A name as a message shows it, byte by byte. Assumes nothing.
 use Prim.Native.Nat.{ℕ, _+_, _≤_, _<_}
-use mathlib.Core.Path.{_≡_, refl, sym, ap, _∙_}
+use mathlib.Core.Path.{_≡_, sym, ap, _∙_}
 use mathlib.Core.List.{List, [], _∷_, _++_, append-nil, append-assoc}
 use native.Mathlib.Numerals.{add-one}
-use native.Mathlib.Omega.{arith}
-use borrow.Author.Tests.{le-leb}
 use lib.ListN.{length, take, getD}
 use lib.Seq.{take-suc, take-all}
 use Rattle.text.specs.InTurn.{PutInTurn}
-use Rattle.text.specs.Putting.{largest, placeAfter}
 use Rattle.text.proofs.Puts.{more}
 use Rattle.messages.specs.Messages.{shownByte, shown}
 
@@ -17,11 +14,7 @@ unfolding shown
 shown-end [] b = append-nil (shownByte b)
 shown-end (a ∷ name) b = ap (λ (x : List ℕ). shownByte a ++ x) (shown-end name b) ∙ sym (append-assoc (shownByte a) (shown name) (shownByte b))
 
--- a name is put byte by byte: none of it, one more byte, and all
-pub none-put : (d : List ℕ) (at : ℕ) → at ≤ largest → PutInTurn d at [] d at
-unfolding placeAfter
-none-put d at h = record { place = rw (le-leb (at + 0) largest (omega arith)) (omega arith); kept = refl; stored = λ _. (omega arith, refl) }
-
+-- a name is put byte by byte: one more byte, and all
 module _ (name : List ℕ) (i : ℕ) {d d₁ : List ℕ} {at m : ℕ} (p : PutInTurn d at (shown (take i name)) d₁ m) where
   pub one-more : {d₂ : List ℕ} {r : ℕ} → i < length name → PutInTurn d₁ m (shownByte (getD name i 0)) d₂ r → PutInTurn d at (shown (take (i + 1) name)) d₂ r
   one-more h q = rw (add-one i, take-suc name i 0 h, shown-end (take i name) (getD name i 0)) (more p q)

@@ -7,6 +7,7 @@ use mathlib.Core.List.{List}
 use borrow.Author.Tests.{eq-eqb}
 use Rattle.frame.specs.Layout.{fieldsOf}
 use Rattle.frame.specs.Reading.{payloadOf, blocksOf}
+use Rattle.tally.specs.Tally.{counted}
 use Rattle.stream.specs.declared.Record.{Record}
 use Rattle.stream.specs.Records.{noCounts, admitted, flagsOf, bump, countsAfter, recordAfter}
 use Rattle.stream.specs.Step.{stepped}
@@ -47,6 +48,11 @@ module _ (r : Record) (frame : List ℕ) (L : ℕ) where
   pub after-mr-changes : after r frame L .counts .«mr_changes» ≡ bump (answerOf r frame L .flags .mr) (r .counts .«mr_changes»)
   unfolding after answerOf stepOf stepped recordAfter countsAfter
   after-mr-changes = refl
+
+-- the tally counts what the frame's presentation time is answered to be
+pub after-tally : (r : Record) (frame : List ℕ) (L : ℕ) → after r frame L .tally ≡ counted (answerOf r frame L .timing) (r .tally)
+unfolding after answerOf stepOf stepped recordAfter
+after-tally r frame L = refl
 
 -- what a record expects of the next frame: this sequence number and block count, or anything where no frame has been seen
 abbrev pub Expects : Record → ℕ → ℕ → Type 0

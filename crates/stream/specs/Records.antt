@@ -10,6 +10,9 @@ use Rattle.frame.specs.declared.layout.Fields.{Fields}
 use Rattle.refusal.specs.Refusals.{differs}
 use Rattle.frame.specs.Layout.{fieldsOf}
 use Rattle.frame.specs.Reading.{blocksOf}
+use Rattle.presentation.specs.declared.Timing.{Timing}
+use Rattle.tally.specs.declared.Tally.{Tally}
+use Rattle.tally.specs.Tally.{noTally, counted}
 use Rattle.stream.specs.declared.Format.{Format}
 use Rattle.stream.specs.declared.Counts.{Counts}
 use Rattle.stream.specs.declared.Record.{Record}
@@ -35,6 +38,7 @@ unused =
       mr = false;
       format = noFormat;
       counts = noCounts;
+      tally = noTally;
     }
 
 -- after admission it holds the id, nothing seen and zero in every other field and count
@@ -49,13 +53,19 @@ admitted id =
       mr = false;
       format = noFormat;
       counts = noCounts;
+      tally = noTally;
     }
 
--- nothing in them but the id and that it is admitted: the rest is what fifty zero bytes hold, and no count
+-- nothing in them but the id and that it is admitted: the rest is what fifty zero bytes hold, no count and no tally
 abbrev pub ZeroRecords : Type 0
 ZeroRecords =
     (let zeros = fieldsOf (replicate 50 0) in
     let none : Counts = record { frames = 0; «sequence_breaks» = 0; «block_breaks» = 0; «format_changes» = 0; «mr_changes» = 0 } in
+    let nothing : Tally =
+    record {
+      kinds = record { none = 0; cut = 0; outside = 0; late = 0; ahead = 0 };
+      sums = record { «sum_above» = 0; unsummed = 0; summed = 0; «largest_above» = 0; «smallest_below» = 0 };
+    } in
     let blank : Bool → ℕ → Record =
     λ used id. record {
       «in_use» = used;
@@ -66,6 +76,7 @@ ZeroRecords =
       mr = zeros .header .avtp .mr;
       format = record { fmt = zeros .cip .fmt; dbs = zeros .cip .dbs; «fraction_number» = zeros .cip .«fraction_number»; sph = zeros .cip .sph };
       counts = none;
+      tally = nothing;
     } in
     (unused ≡ blank false 0) × ((id : ℕ) → admitted id ≡ blank true id))
 
@@ -120,8 +131,9 @@ countsAfter c raised =
       «mr_changes» = bump (raised .mr) (c .«mr_changes»);
     }
 
-unfoldable pub recordAfter : Record → Fields → List ℕ → Flags → Record
-recordAfter r f payload raised =
+-- what request #104 has it hold beside document 01's list is counted by the frame's presentation time
+unfoldable pub recordAfter : Record → Fields → List ℕ → Flags → Timing → Record
+recordAfter r f payload raised timing =
     record {
       «in_use» = r .«in_use»;
       seen = true;
@@ -131,4 +143,5 @@ recordAfter r f payload raised =
       mr = f .header .avtp .mr;
       format = formatOf (f .cip);
       counts = countsAfter (r .counts) raised;
+      tally = counted timing (r .tally);
     }

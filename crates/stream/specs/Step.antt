@@ -11,7 +11,7 @@ use Rattle.stream.specs.Records.{flagsOf, recordAfter}
 unfoldable pub stepped : Record → Fields → List ℕ → ℕ → Stepped
 stepped r f payload L =
     record {
-      after = recordAfter r f payload (flagsOf r f);
+      after = recordAfter r f payload (flagsOf r f) (presentation L f payload);
       flags = flagsOf r f;
       timing = presentation L f payload;
     }

@@ -4,6 +4,7 @@ use frame::layout::Cip;
 use frame::layout::Fields;
 use presentation::Timing;
 use refusal::Refusal;
+use tally::Tally;
 ghost use mathlib.Core.Path.{_≡_};
 ghost use denote.Ref.{ptr};
 ghost use Rattle.wire.specs.Parts.{StandsIn};
@@ -40,6 +41,8 @@ pub struct Record {
     pub mr: bool,
     pub format: Format,
     pub counts: Counts,
+    // what the visit report says of its presentation times; no flag and no kind reads it
+    pub tally: Tally,
 }
 
 pub struct Flags {
@@ -90,6 +93,7 @@ pub fn unused() -> Record
             format_changes: 0,
             mr_changes: 0,
         },
+        tally: tally::none_yet(),
     }
 }
 
@@ -185,8 +189,8 @@ fn count_frame(counts: Counts, raised: Flags) -> Counts
     after
 }
 
-fn update(last: Record, fields: Fields, payload: &[u8], raised: Flags) -> Record
-    ensures { λ r. ⌜ r ≡ recordAfter last fields (now (payload .entry)) raised ⌝ }
+fn update(last: Record, fields: Fields, payload: &[u8], raised: Flags, timing: Timing) -> Record
+    ensures { λ r. ⌜ r ≡ recordAfter last fields (now (payload .entry)) raised timing ⌝ }
 {
     let avtp = fields.header.avtp;
     let cip = fields.cip;
@@ -199,6 +203,7 @@ fn update(last: Record, fields: Fields, payload: &[u8], raised: Flags) -> Record
         mr: avtp.mr,
         format: format_of(cip),
         counts: count_frame(last.counts, raised),
+        tally: tally::count(last.tally, timing),
     }
 }
 
@@ -208,7 +213,7 @@ pub fn step(last: Record, fields: Fields, payload: &[u8], arrival_time: u64) -> 
 {
     let flags = raise_flags(last, fields);
     let timing = presentation::judge_time(arrival_time, fields, payload);
-    let after = update(last, fields, payload, flags);
+    let after = update(last, fields, payload, flags, timing);
     Stepped {
         after,
         flags,

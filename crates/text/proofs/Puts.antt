@@ -2,7 +2,7 @@
 use Prim.Native.Nat.{ℕ, _+_, _≤_, _<_}
 use mathlib.Core.Path.{_≡_, refl, sym, ap, _∙_}
 use mathlib.Core.Bool.{Bool, true, false, not}
-use mathlib.Core.List.{List, _++_}
+use mathlib.Core.List.{List, [], _++_}
 use native.Mathlib.Omega.{arith}
 use borrow.Author.Tests.{le-leb, lt-leb, leb-true, leb-false, not-true, not-false}
 use lib.Dec.{leb}
@@ -80,6 +80,11 @@ kept : (d : List ℕ) (at : ℕ) (s : List ℕ) (fits : Bool) → leb (at + leng
 unfolding putAt
 kept d at s true e = rw e (length-sets d at s)
 kept d at s false e = rw e
+
+-- no text, by no call
+pub none-put : (d : List ℕ) (at : ℕ) → at ≤ largest → PutInTurn d at [] d at
+unfolding placeAfter
+none-put d at h = record { place = rw (le-leb (at + 0) largest (omega arith)) (omega arith); kept = refl; stored = λ _. (omega arith, refl) }
 
 module _ {d d₁ s : List ℕ} {at m : ℕ} where
   -- one text, by one call

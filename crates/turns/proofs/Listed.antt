@@ -1,7 +1,7 @@
 -- All turns together: what is listed is the capture that came. Assumes nothing.
 use Prim.Native.Nat.{ℕ, _+_, _-_, _≤_}
 use mathlib.Core.Path.{_≡_, refl, sym, ap, _∙_, subst}
-use mathlib.Core.Bool.{true, false, cond}
+use mathlib.Core.Bool.{Bool, true, false, cond}
 use mathlib.Core.List.{List, [], _∷_, _++_, append-nil, append-assoc}
 use native.Mathlib.Omega.{arith}
 use borrow.Author.Tests.{le-leb}
@@ -24,34 +24,34 @@ use Rattle.turns.specs.declared.State.{State}
 use Rattle.turns.proofs.Turning.{many}
 use Rattle.turns.specs.Turns.{started, isRead, listed, InPlace, Turned, Listing}
 
-one-more : (r : Run) (cs : List LentChunk) (c : LentChunk) → listChunks r (cs ++ (c ∷ [])) ≡ listChunk (listChunks r cs) c
+one-more : (shown : Bool) (r : Run) (cs : List LentChunk) (c : LentChunk) → listChunks shown r (cs ++ (c ∷ [])) ≡ listChunk shown (listChunks shown r cs) c
 unfolding listChunks
-one-more r [] c = refl
-one-more r (x ∷ cs) c = one-more (listChunk r x) cs c
+one-more shown r [] c = refl
+one-more shown r (x ∷ cs) c = one-more shown (listChunk shown r x) cs c
 
 capture-more : (cs : List LentChunk) (c : LentChunk) → captureOf (cs ++ (c ∷ [])) ≡ captureOf cs ++ c .bytes
 unfolding captureOf
 capture-more [] c = append-nil (c .bytes)
 capture-more (x ∷ cs) c = ap (λ (l : List ℕ). x .bytes ++ l) (capture-more cs c) ∙ sym (append-assoc (x .bytes) (captureOf cs) (c .bytes))
 
-nothing-used : (chunk : List ℕ) (t : Table) (n room : ℕ) → roomy room 0 ≡ true → length (chunked chunk t n room .rest) ≡ length chunk
-    → chunked chunk t n room ≡ record { said = []; rest = chunk; state = t }
+nothing-used : (shown : Bool) (chunk : List ℕ) (t : Table) (n room : ℕ) → roomy room 0 ≡ true → length (chunked shown chunk t n room .rest) ≡ length chunk
+    → chunked shown chunk t n room ≡ record { said = []; rest = chunk; state = t }
 unfolding chunked linesAfter
-nothing-used chunk t n room fits z = in-chunks .walked .nothing-used _ chunk t fits z
+nothing-used shown chunk t n room fits z = in-chunks .walked .nothing-used _ chunk t fits z
 
-same-listing : (capture text : List ℕ) {k k′ m m′ : ℕ} {t t′ : Table} → k ≡ k′ → m ≡ m′ → t ≡ t′
-    → ListedAs capture (startLine ++ (text ++ ending (ltb 0 k) m)) t → ListedAs capture (startLine ++ (text ++ ending (ltb 0 k′) m′)) t′
-same-listing capture text e f g p = rw (sym e, sym f, sym g) p
+same-listing : (shown : Bool) (capture text : List ℕ) {k k′ m m′ : ℕ} {t t′ : Table} → k ≡ k′ → m ≡ m′ → t ≡ t′
+    → ListedAs shown capture (startLine ++ (text ++ ending (ltb 0 k) m)) t → ListedAs shown capture (startLine ++ (text ++ ending (ltb 0 k′) m′)) t′
+same-listing shown capture text e f g p = rw (sym e, sym f, sym g) p
 
 -- the output keeps its size
-pub out-size : {input d : List ℕ} {s r : State} {input′ d′ : List ℕ} → Turned input d s r input′ d′ → length d′ ≡ length d
-out-size {input} {d} {s} t = ap length (t .lines) ∙ length-sets d 0 (linesAfter (s .records) (listed input s (length d) .said))
+pub out-size : {shown : Bool} {input d : List ℕ} {s r : State} {input′ d′ : List ℕ} → Turned shown input d s r input′ d′ → length d′ ≡ length d
+out-size {shown} {input} {d} {s} t = ap length (t .lines) ∙ length-sets d 0 (linesAfter shown (s .records) (listed shown input s (length d) .said))
 
 -- nothing has been listed yet
-pub at-start : (input : List ℕ) (have : ℕ) (stage : Stage) {s : State} → s ≡ started have stage → isRead stage ≡ false → have ≤ length input
-    → InPlace input s × Listing (take have input) input s
+pub at-start : (shown : Bool) (input : List ℕ) (have : ℕ) (stage : Stage) {s : State} → s ≡ started have stage → isRead stage ≡ false → have ≤ length input
+    → InPlace input s × Listing shown (take have input) input s
 unfolding listChunks captureOf
-at-start input have stage e unread h =
+at-start shown input have stage e unread h =
     rw e (
       (omega arith, h),
       record {
@@ -67,55 +67,55 @@ at-start input have stage e unread h =
       },
     )
 
-module _ (first input d : List ℕ) (s r : State) (input′ d′ : List ℕ) (h : InPlace input s) (room : lineRoom ≤ length d)
-    (so-far : Listing first input s) (turned : Turned input d s r input′ d′) where
+module _ (shown : Bool) (first input d : List ℕ) (s r : State) (input′ d′ : List ℕ) (h : InPlace input s) (room : lineRoom ≤ length d)
+    (so-far : Listing shown first input s) (turned : Turned shown input d s r input′ d′) where
   abbrev before : Run
-  before = listChunks unlisted (so-far .chunks)
+  before = listChunks shown unlisted (so-far .chunks)
 
   abbrev chunk : LentChunk
   chunk = record { bytes = so-far .later; room = length d }
 
   abbrev after : Run
-  after = listChunks unlisted (so-far .chunks ++ (chunk ∷ []))
+  after = listChunks shown unlisted (so-far .chunks ++ (chunk ∷ []))
 
   abbrev now-listed : ChunkWalk Said Table
-  now-listed = listed input s (length d)
+  now-listed = listed shown input s (length d)
 
-  as-chunk : now-listed ≡ chunked (before .rest ++ so-far .later) (before .table) (before .records) (length d)
-  as-chunk i = chunked (so-far .held i) (so-far .table i) (so-far .records i) (length d)
+  as-chunk : now-listed ≡ chunked shown (before .rest ++ so-far .later) (before .table) (before .records) (length d)
+  as-chunk i = chunked shown (so-far .held i) (so-far .table i) (so-far .records i) (length d)
 
   rest-after : now-listed .rest ≡ after .rest
   unfolding listChunk
-  rest-after = ap (λ (w : ChunkWalk Said Table). w .rest) as-chunk ∙ sym (ap (λ (x : Run). x .rest) (one-more unlisted (so-far .chunks) chunk))
+  rest-after = ap (λ (w : ChunkWalk Said Table). w .rest) as-chunk ∙ sym (ap (λ (x : Run). x .rest) (one-more shown unlisted (so-far .chunks) chunk))
 
   table-after : now-listed .state ≡ after .table
   unfolding listChunk
-  table-after = ap (λ (w : ChunkWalk Said Table). w .state) as-chunk ∙ sym (ap (λ (x : Run). x .table) (one-more unlisted (so-far .chunks) chunk))
+  table-after = ap (λ (w : ChunkWalk Said Table). w .state) as-chunk ∙ sym (ap (λ (x : Run). x .table) (one-more shown unlisted (so-far .chunks) chunk))
 
   records-after : numberAfter (s .records) (now-listed .said) ≡ after .records
   unfolding listChunk
-  records-after = (λ i. numberAfter (so-far .records i) (as-chunk i .said)) ∙ sym (ap (λ (x : Run). x .records) (one-more unlisted (so-far .chunks) chunk))
+  records-after = (λ i. numberAfter (so-far .records i) (as-chunk i .said)) ∙ sym (ap (λ (x : Run). x .records) (one-more shown unlisted (so-far .chunks) chunk))
 
   fits : roomy (length d) 0 ≡ true
   fits = le-leb (0 + lineRoom) (length d) (omega arith)
 
   all-listed : isRead (r .stage) ≡ true
-      → ListedAs (captureOf (so-far .chunks ++ (chunk ∷ []))) (startLine ++ (after .text ++ ending (ltb 0 (r .have - r .from)) (r .records))) (r .table)
+      → ListedAs shown (captureOf (so-far .chunks ++ (chunk ∷ []))) (startLine ++ (after .text ++ ending (ltb 0 (r .have - r .from)) (r .records))) (r .table)
   unfolding numberAfter
   all-listed e =
       let ended = turned .ended e in
-      let idle = nothing-used (between (s .from) (s .have) input) (s .table) (s .records) (length d) fits (ended .0 ∙ sym (many input s h)) in
+      let idle = nothing-used shown (between (s .from) (s .have) input) (s .table) (s .records) (length d) fits (ended .0 ∙ sym (many input s h)) in
       let rest : after .rest ≡ between (s .from) (s .have) input = sym rest-after ∙ ap (λ (w : ChunkWalk Said Table). w .rest) idle in
       let table : after .table ≡ s .table = sym table-after ∙ ap (λ (w : ChunkWalk Said Table). w .state) idle in
       let records : after .records ≡ s .records = sym records-after ∙ ap (λ (w : ChunkWalk Said Table). numberAfter (s .records) (w .said)) idle in
-      let again : length (chunked (after .rest) (after .table) (after .records) (length d) .rest) ≡ length (after .rest) =
-      (λ i. length (chunked (rest i) (table i) (records i) (length d) .rest)) ∙ ap (λ (w : ChunkWalk Said Table). length (w .rest)) idle ∙ ap length (sym rest) in
+      let again : length (chunked shown (after .rest) (after .table) (after .records) (length d) .rest) ≡ length (after .rest) =
+      (λ i. length (chunked shown (rest i) (table i) (records i) (length d) .rest)) ∙ ap (λ (w : ChunkWalk Said Table). length (w .rest)) idle ∙ ap length (sym rest) in
       let left : length (after .rest) ≡ r .have - r .from = ap length (sym rest-after ∙ sym (ended .1)) ∙ many input′ r (turned .places) in
-      same-listing (captureOf (so-far .chunks ++ (chunk ∷ []))) (after .text) left (sym (turned .records ∙ records-after)) (sym (turned .table ∙ table-after))
-      (in-chunks .whole-capture (so-far .chunks ++ (chunk ∷ [])) (length d) fits again)
+      same-listing shown (captureOf (so-far .chunks ++ (chunk ∷ []))) (after .text) left (sym (turned .records ∙ records-after)) (sym (turned .table ∙ table-after))
+      (in-chunks .whole-capture shown (so-far .chunks ++ (chunk ∷ [])) (length d) fits again)
 
   -- a turn lists one chunk more
-  pub after-turn : Listing first input′ r
+  pub after-turn : Listing shown first input′ r
   after-turn =
       let here = between (r .from) (r .have) input′ in
       let new = drop (length (now-listed .rest)) here in
@@ -144,13 +144,13 @@ module _ (input : List ℕ) (have e : ℕ) (is : e ≡ cond (leb have (length in
       ap (λ (k : ℕ). take k input) (is ∙ sym (front (end 0 have input))) ∙ up-to-end 0 have input ∙ ap (λ (k : ℕ). take k input) (front have)
 
   -- there is no room for a line
-  pub no-room : {s : State} → s ≡ started e CannotWrite
-      → (s .from ≤ s .have) × Listing (take have input) input s × (s ≡ started (length (take have input)) CannotWrite)
-  no-room by =
-      let p = at-start input e CannotWrite by refl within in
+  pub no-room : (shown : Bool) {s : State} → s ≡ started e CannotWrite
+      → (s .from ≤ s .have) × Listing shown (take have input) input s × (s ≡ started (length (take have input)) CannotWrite)
+  no-room shown by =
+      let p = at-start shown input e CannotWrite by refl within in
       let count : e ≡ length (take have input) = sym (length-take-le e input within) ∙ ap length same-bytes in
       (p .0 .0, rw same-bytes at (p .1), by ∙ ap (λ (n : ℕ). started n CannotWrite) count)
 
   -- there is
-  pub as-read : {input′ : List ℕ} {s : State} → Listing (take e input) input′ s → Listing (take have input) input′ s
+  pub as-read : {shown : Bool} {input′ : List ℕ} {s : State} → Listing shown (take e input) input′ s → Listing shown (take have input) input′ s
   as-read l = rw same-bytes at l

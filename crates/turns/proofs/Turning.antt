@@ -26,9 +26,9 @@ drop-take (suc m) (suc n) [] = sym (take-nil (suc n - suc m))
 drop-take (suc m) (suc n) (x ∷ l) = let e : n - m ≡ suc n - suc m = omega arith in drop-take m n l ∙ ap (λ (k : ℕ). take k (drop m l)) e
 
 -- what is left of a chunk is its end
-left-over : (chunk : List ℕ) (t : Table) (n room : ℕ) → drop (length chunk - length (chunked chunk t n room .rest)) chunk ≡ chunked chunk t n room .rest
+left-over : (shown : Bool) (chunk : List ℕ) (t : Table) (n room : ℕ) → drop (length chunk - length (chunked shown chunk t n room .rest)) chunk ≡ chunked shown chunk t n room .rest
 unfolding chunked
-left-over chunk t n room = in-chunks .walked .left-over _ chunk t
+left-over shown chunk t n room = in-chunks .walked .left-over _ chunk t
 
 -- bytes that are used, and those behind them
 behind-used : (input : List ℕ) (from have used : ℕ) → drop used (between from have input) ≡ between (from + used) have input
@@ -53,20 +53,20 @@ shut-at-end Failed e = refl
 pub many : (input : List ℕ) (s : State) → InPlace input s → length (between (s .from) (s .have) input) ≡ s .have - s .from
 many input s h = length-take-le (s .have - s .from) (drop (s .from) input) (rw (length-drop (s .from) input) (omega (arith, h)))
 
-module _ (input d : List ℕ) (s : State) where
+module _ (shown : Bool) (input d : List ℕ) (s : State) where
   -- the bytes that are not listed yet, and those that are left of them
   abbrev chunk : List ℕ
   chunk = between (s .from) (s .have) input
 
   abbrev rest : List ℕ
-  rest = chunked chunk (s .table) (s .records) (length d) .rest
+  rest = chunked shown chunk (s .table) (s .records) (length d) .rest
 
-  module _ {d′ : List ℕ} {p : Progress} {t′ : Table} (h : InPlace input s) (l : ChunkListed chunk (s .table) (s .records) d p t′ d′) where
+  module _ {d′ : List ℕ} {p : Progress} {t′ : Table} (h : InPlace input s) (l : ChunkListed shown chunk (s .table) (s .records) d p t′ d′) where
     left : drop (p .at) chunk ≡ rest
-    left = ap (λ (n : ℕ). drop n chunk) (l .at) ∙ left-over chunk (s .table) (s .records) (length d)
+    left = ap (λ (n : ℕ). drop n chunk) (l .at) ∙ left-over shown chunk (s .table) (s .records) (length d)
 
     -- nothing was read
-    pub went-on : (stage : Stage) → isRead stage ≡ false → Turned input d s (record { table = t′; records = p .records; from = s .from + p .at; have = s .have; stage = stage }) input d′
+    pub went-on : (stage : Stage) → isRead stage ≡ false → Turned shown input d s (record { table = t′; records = p .records; from = s .from + p .at; have = s .have; stage = stage }) input d′
     went-on stage going =
         record {
           table = l .table;
@@ -81,7 +81,7 @@ module _ (input d : List ℕ) (s : State) where
 
     -- none was used, and more may have been read
     pub read-on : {input′ : List ℕ} {f : Filled} {stage : Stage} → p .at ≡ 0 → ReadBehind chunk input input′ f → stage ≡ stageBy (f .source)
-        → Turned input d s (record { table = t′; records = p .records; from = 0; have = f .end; stage = stage }) input′ d′
+        → Turned shown input d s (record { table = t′; records = p .records; from = 0; have = f .end; stage = stage }) input′ d′
     read-on {input′} {f} {stage} none r by =
         let same : chunk ≡ rest = ap (λ (n : ℕ). drop n chunk) (sym none) ∙ left in
         let front : take (length chunk) (between 0 (f .end) input′) ≡ chunk = take-take (length chunk) (f .end - 0) input′ (omega (arith, grown r)) ∙ r .kept in

@@ -49,8 +49,8 @@ started have stage = record { table = replicate 64 unused; records = 0; from = 0
 -- ---- One turn
 
 -- the bytes that are not listed yet, as a chunk, with the state's table and count and an output of so many bytes
-abbrev pub listed : List ℕ → State → ℕ → ChunkWalk Said Table
-listed input s room = chunked (between (s .from) (s .have) input) (s .table) (s .records) room
+abbrev pub listed : Bool → List ℕ → State → ℕ → ChunkWalk Said Table
+listed shown input s room = chunked shown (between (s .from) (s .have) input) (s .table) (s .records) room
 
 -- the state's places are in the input, in their order
 abbrev pub InPlace : List ℕ → State → Type 0
@@ -58,38 +58,39 @@ InPlace input s = (s .from ≤ s .have) × (s .have ≤ length input)
 
 -- a turn from the state s, with the input and the output d: r is the state afterwards, and input′ and d′ are the two then. Whether more
 -- was read, and whether the lines could be written, is the system's to say
-pub record Turned (input d : List ℕ) (s r : State) (input′ d′ : List ℕ) : Type 0 where
-  pub table : r .table ≡ listed input s (length d) .state
-  pub records : r .records ≡ numberAfter (s .records) (listed input s (length d) .said)
+pub record Turned (shown : Bool) (input d : List ℕ) (s r : State) (input′ d′ : List ℕ) : Type 0 where
+  pub table : r .table ≡ listed shown input s (length d) .state
+  pub records : r .records ≡ numberAfter (s .records) (listed shown input s (length d) .said)
   -- the lines that are written
-  pub lines : d′ ≡ sets d 0 (linesAfter (s .records) (listed input s (length d) .said))
+  pub lines : d′ ≡ sets d 0 (linesAfter shown (s .records) (listed shown input s (length d) .said))
   -- what is left stands in front of what may have been read
-  pub left : (let rest = listed input s (length d) .rest in take (length rest) (between (r .from) (r .have) input′) ≡ rest)
+  pub left : (let rest = listed shown input s (length d) .rest in take (length rest) (between (r .from) (r .have) input′) ≡ rest)
   -- more is read only where there was no whole record
-  pub unread : (let rest = listed input s (length d) .rest in length rest < s .have - s .from → between (r .from) (r .have) input′ ≡ rest)
+  pub unread : (let rest = listed shown input s (length d) .rest in length rest < s .have - s .from → between (r .from) (r .have) input′ ≡ rest)
   pub size : length input′ ≡ length input
   pub places : InPlace input′ r
   -- all has been read once there was no whole record left, and nothing more came
   pub ended : isRead (r .stage) ≡ true
-      → (let rest = listed input s (length d) .rest in (length rest ≡ s .have - s .from) × (between (r .from) (r .have) input′ ≡ rest))
+      → (let rest = listed shown input s (length d) .rest in (length rest ≡ s .have - s .from) × (between (r .from) (r .have) input′ ≡ rest))
 
 -- ---- All of them
 
 -- a capture of which the first bytes had been read before: the state and the input hold it as it came in chunks. The count and the table are
 -- theirs, and what they leave stands in the input, in front of what came later
-pub record Listing (first input : List ℕ) (s : State) : Type 0 where
+pub record Listing (shown : Bool) (first input : List ℕ) (s : State) : Type 0 where
   pub chunks : List LentChunk
   pub later : List ℕ
-  pub held : between (s .from) (s .have) input ≡ listChunks unlisted chunks .rest ++ later
-  pub records : s .records ≡ listChunks unlisted chunks .records
-  pub table : s .table ≡ listChunks unlisted chunks .table
+  pub held : between (s .from) (s .have) input ≡ listChunks shown unlisted chunks .rest ++ later
+  pub records : s .records ≡ listChunks shown unlisted chunks .records
+  pub table : s .table ≡ listChunks shown unlisted chunks .table
   -- the first bytes, and then what came behind them
   pub behind : List ℕ
   pub begun : captureOf chunks ++ later ≡ first ++ behind
-  -- once all has been read, nothing waits, and the lines of the chunks are the capture's listing, between its first line and the ending
+  -- once all has been read, nothing waits, and the lines of the chunks, where they are shown, are the
+  -- capture's listing, between its first line and the ending; the table is the one that the capture leaves
   pub all : isRead (s .stage) ≡ true → later ≡ []
   pub whole : isRead (s .stage) ≡ true
-      → ListedAs (captureOf chunks) (startLine ++ (listChunks unlisted chunks .text ++ ending (ltb 0 (s .have - s .from)) (s .records))) (s .table)
+      → ListedAs shown (captureOf chunks) (startLine ++ (listChunks shown unlisted chunks .text ++ ending (ltb 0 (s .have - s .from)) (s .records))) (s .table)
 
 -- nothing was read and nothing listed, since the output d has no room for a line: only the first bytes, which had been read before, are
 -- there

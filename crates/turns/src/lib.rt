@@ -1,4 +1,4 @@
-// A capture listed as it is read: its bytes come into a buffer, and the lines of its records go out, turn by turn.
+// A capture gone through as it is read: its bytes come into a buffer, and the lines of its records go out, turn by turn, where they are shown.
 use input::Source;
 use libc::STDOUT_FILENO;
 use stream::Record;
@@ -50,14 +50,14 @@ fn stage_of(source: Source) -> Stage
 }
 
 // Lists the whole records at the front of what has been read, and writes their lines. Where there is none, reads more.
-fn turn(fd: i32, input: &mut [u8], out: &mut [u8], s: State) -> State
+fn turn(fd: i32, input: &mut [u8], out: &mut [u8], s: State, shown: bool) -> State
     requires { ⌜ InPlace (now input) s ⌝ }
-    ensures { λ r. ⌜ Turned (now (input .entry)) (now (out .entry)) s r (now (input .exit)) (now (out .exit)) ⌝ }
+    ensures { λ r. ⌜ Turned shown (now (input .entry)) (now (out .entry)) s r (now (input .exit)) (now (out .exit)) ⌝ }
 {
     let from = s.from;
     let have = s.have;
     let before = s.table;
-    let listed = listing::chunk::list_chunk_in(before, &input[from..have], out, s.records);
+    let listed = listing::chunk::list_chunk_in(before, &input[from..have], out, s.records, shown);
     let table = listed.table;
     let progress = listed.progress;
     let put = progress.put;
@@ -108,36 +108,36 @@ fn start(have: usize, stage: Stage) -> State
 
 // Turn after turn, until nothing is left to list. A proved loop has to end, so the turns are counted down from a number that no run uses
 // up.
-fn all_turns(fd: i32, input: &mut [u8], have: usize, out: &mut [u8]) -> State
+fn all_turns(fd: i32, input: &mut [u8], have: usize, out: &mut [u8], shown: bool) -> State
     requires { ⌜ (have ≤ length (now input)) × (lineRoom ≤ length (now out)) ⌝ }
-    ensures { λ r. ⌜ (r .from ≤ r .have) × Listing (take have (now (input .entry))) (now (input .exit)) r ⌝ }
+    ensures { λ r. ⌜ (r .from ≤ r .have) × Listing shown (take have (now (input .entry))) (now (input .exit)) r ⌝ }
 {
     let mut s = start(have, Stage::Going);
-    let mut shown = progress::start();
+    let mut told = progress::start();
     let mut going = true;
     let mut turns = u64::MAX;
     while turns > 0 && going {
-        s = turn(fd, input, out, s);
+        s = turn(fd, input, out, s, shown);
         let stage = s.stage;
         going = is_going(stage);
         // after a failure nothing is called that could hide its reason
         if going {
-            shown = progress::tell(shown, s.records);
+            told = progress::tell(told, s.records);
         }
         turns -= 1;
     }
-    progress::hide(shown);
+    progress::hide(told);
     s
 }
 
-// Lists the records of a capture of which so many bytes have been read, as far as the buffer has them, and writes their lines to standard
-// output. Where the output has no room for a line, nothing is read and nothing is listed.
-pub fn list_records(fd: i32, input: &mut [u8], have: usize, out: &mut [u8]) -> State
-    ensures { λ r. ⌜ (r .from ≤ r .have) × Listing (take have (now (input .entry))) (now (input .exit)) r × (roomy (length (now (out .entry))) 0 ≡ false → NothingListed (take have (now (input .entry))) (now (input .entry)) (now (out .entry)) r (now (input .exit)) (now (out .exit))) ⌝ }
+// Goes through the records of a capture of which so many bytes have been read, as far as the buffer has them, and writes their lines to
+// standard output, where they are shown. Where the output has no room for a line, nothing is read and nothing is listed.
+pub fn list_records(fd: i32, input: &mut [u8], have: usize, out: &mut [u8], shown: bool) -> State
+    ensures { λ r. ⌜ (r .from ≤ r .have) × Listing shown (take have (now (input .entry))) (now (input .exit)) r × (roomy (length (now (out .entry))) 0 ≡ false → NothingListed (take have (now (input .entry))) (now (input .entry)) (now (out .entry)) r (now (input .exit)) (now (out .exit))) ⌝ }
 {
     let end = input::least(have, input.len());
     if !lines::roomy(out.len(), 0) {
         return start(end, Stage::CannotWrite);
     }
-    all_turns(fd, input, end, out)
+    all_turns(fd, input, end, out, shown)
 }

@@ -1,7 +1,7 @@
 use native.Mathlib.Omega.{arith}
 use borrow.Author.Needs.{needs}
 use denote.Ref.{now}
-use Rattle.messages.proofs.Names.{none-put}
+use Rattle.text.proofs.Puts.{none-put}
 use Rattle.formats.proofs.hint.Statement.{statement}
 use Rattle.formats.proofs.hint.Tie as tie
 

@@ -4,7 +4,8 @@ use lib.ListN.{length, take}
 use denote.Ref.{now}
 use Rattle.text.specs.InTurn.{PutInTurn}
 use Rattle.messages.specs.Messages.{shown}
-use Rattle.messages.proofs.Names.{none-put, one-more, all-put}
+use Rattle.text.proofs.Puts.{none-put}
+use Rattle.messages.proofs.Names.{one-more, all-put}
 use Rattle.messages.proofs.put_shown.Statement.{statement}
 use Rattle.messages.proofs.put_shown.Tie as tie
 

@@ -8,4 +8,4 @@ unfolding recordAfter
 returns c = cc
 
 pub update-spec : {M : Type 1} → statement M
-update-spec = tie.close (tie.spec (λ c κs. search needs) (λ c κs. search needs) (λ c κs. search needs) (λ c κs. search needs) returns)
+update-spec = tie.close (tie.spec (λ c κs. search needs) (λ c κs. search needs) (λ c κs. search needs) (λ c κs. search needs) (λ c κs. search needs) returns)

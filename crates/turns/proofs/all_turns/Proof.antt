@@ -10,15 +10,15 @@ use Rattle.turns.proofs.all_turns.Statement.{statement}
 use Rattle.turns.proofs.all_turns.Tie as tie
 
 abbrev Inv-loop : tie.InvT-loop
-Inv-loop fd input₀ have out₀ s₀ shown₀ going₀ turns₀ input out s shown going turns = InPlace input s × (length input ≡ length input₀) × (length out ≡ length out₀) × Listing (take have input₀) input s
+Inv-loop fd input₀ have out₀ shown s₀ told₀ going₀ turns₀ input out s told going turns = InPlace input s × (length input ≡ length input₀) × (length out ≡ length out₀) × Listing shown (take have input₀) input s
 
 abbrev μ-loop : tie.MeasureT-loop
-μ-loop fd input₀ have out₀ s₀ shown₀ going₀ turns₀ input out s shown going turns = turns
+μ-loop fd input₀ have out₀ shown s₀ told₀ going₀ turns₀ input out s told going turns = turns
 
 loop-holds : tie.Need-loop-holds Inv-loop μ-loop
 loop-holds c =
     let a = c .before .before .before .before in
-    let p = at-start (now (a .args .input)) (a .args .have) Going (c .before .start .ensures) refl (a .pre .0) in
+    let p = at-start (a .args .shown) (now (a .args .input)) (a .args .have) Going (c .before .start .ensures) refl (a .pre .0) in
     (p .0, refl, refl, p .1)
 
 loop-again : tie.Need-loop-again Inv-loop μ-loop
@@ -27,7 +27,7 @@ loop-again c =
     let l = turned .before .before .before .before .before .loop in
     let pre = turned .before .before .before .before .before .before .before .before .before .before .pre in
     let t = turned .turn .ensures in
-    (t .places, t .size ∙ l .inv .1, out-size t ∙ l .inv .2, after-turn _ (l .input) (l .out) (l .s) _ _ _ (l .inv .0) (omega (arith, l .inv .2, pre .1)) (l .inv .3) t)
+    (t .places, t .size ∙ l .inv .1, out-size t ∙ l .inv .2, after-turn _ _ (l .input) (l .out) (l .s) _ _ _ (l .inv .0) (omega (arith, l .inv .2, pre .1)) (l .inv .3) t)
 
 returns : tie.Need-returns Inv-loop μ-loop
 returns c = let inv = c .before .before .loop .inv in (inv .0 .0, inv .3)

@@ -13,7 +13,7 @@ returns : tie.Need-returns
 returns c =
     let counted = c .before .before .before in
     let a = counted .before .before .before .args in
-    let p = no-room (now (a .input)) (a .have) (counted .least .result) (counted .least .ensures) (c .start .ensures) in
+    let p = no-room (now (a .input)) (a .have) (counted .least .result) (counted .least .ensures) (a .shown) (c .start .ensures) in
     (p .0, p .1, λ _. record { state = p .2; unread = refl; unwritten = refl })
 
 all-turns-requires : tie.Need-all-turns-requires

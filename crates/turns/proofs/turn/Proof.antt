@@ -10,13 +10,13 @@ returns : tie.Need-returns
 returns c =
     let listed = c .before .before .before .before .before .before .before .before in
     let start = listed .before .before .before .before .before .before .before in
-    went-on (now (start .args .input)) (now (start .args .out)) (start .args .s) (start .pre) (listed .list-chunk-in .ensures) _ refl
+    went-on (start .args .shown) (now (start .args .input)) (now (start .args .out)) (start .args .s) (start .pre) (listed .list-chunk-in .ensures) _ refl
 
 returns-2 : tie.Need-returns-2
 returns-2 c =
     let listed = c .before .before .before .before .before .before .before .before .before in
     let start = listed .before .before .before .before .before .before .before in
-    went-on (now (start .args .input)) (now (start .args .out)) (start .args .s) (start .pre) (listed .list-chunk-in .ensures) _ refl
+    went-on (start .args .shown) (now (start .args .input)) (now (start .args .out)) (start .args .s) (start .pre) (listed .list-chunk-in .ensures) _ refl
 
 returns-3 : tie.Need-returns-3
 returns-3 c =
@@ -24,7 +24,7 @@ returns-3 c =
     let asked = read .before .before in
     let listed = asked .before .before .before .before .before .before .before .before .before in
     let start = listed .before .before .before .before .before .before .before in
-    read-on (now (start .args .input)) (now (start .args .out)) (start .args .s) (start .pre) (listed .list-chunk-in .ensures) (omega arith) (read .refill .ensures) (c .stage-of .ensures)
+    read-on (start .args .shown) (now (start .args .input)) (now (start .args .out)) (start .args .s) (start .pre) (listed .list-chunk-in .ensures) (omega arith) (read .refill .ensures) (c .stage-of .ensures)
 
 pub turn-spec : {M : Type 1} → statement M
 turn-spec =

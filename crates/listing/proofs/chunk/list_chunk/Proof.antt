@@ -33,8 +33,8 @@ use sound.WpLaws.{FmC, fmOf, WpFn-mono}
 use denote.RattleType.{owns}
 use denote.Laws.{Is}
 use denote.Memory.{pointee}
-use denote.Plain.{uint-vals, uint-tells, uint-makes}
-use denote.Builtin.{u8, u64}
+use denote.Plain.{uint-vals, uint-tells, uint-makes, bool-vals, bool-tells, bool-makes}
+use denote.Builtin.{u8, u64, bool}
 use denote.Ref.{RefT}
 use denote.Slice.{sliceTy, sliceVal, MutSlice, ShrSlice, Room, slice-vals, mut-slice-tells, shr-slice-tells, shr-slice-copy}
 use denote.Signature.{plain}
@@ -100,7 +100,7 @@ use Rattle.listing.proofs.chunk.list_chunk.Code as code
 use Rattle.listing.proofs.chunk.list_chunk.Code.Mir as mir
 
 abbrev stayed : Stays (this.ended .signature .params) (this.ended .kept)
-stayed = (stay-slice (0 ∷ []) tt (plain (λ _. T.the-row)), (stay-none-slice (1 ∷ []) tt (plain (λ _. u8)) yes, (stay-slice (2 ∷ []) tt (plain (λ _. u8)), (stay-none (λ _. u64) yes, tt))))
+stayed = (stay-slice (0 ∷ []) tt (plain (λ _. T.the-row)), (stay-none-slice (1 ∷ []) tt (plain (λ _. u8)) yes, (stay-slice (2 ∷ []) tt (plain (λ _. u8)), (stay-none (λ _. u64) yes, (stay-none (λ _. bool) yes, tt)))))
 
 -- a `Record` behind a reference
 abbrev recTy : Ty
@@ -115,12 +115,12 @@ is-false true h = absurd h
 is-false false h = refl
 
 module _ {M : Type 1} (𝓤 : URA M) (H : Heap 𝓤) (A : Atoms 𝓤) (W : Given 𝓤 H A) (mem : Memory → SProp 𝓤) (run : Routine → Fun 𝓤) (κ κ₁ κ₂ : Lft) (bounds : AllOutlive 3 (this.signature .outlives) (κ, (κ₁, (κ₂, tt)))) (q q₁ q₂ : Share)
-    (b o : ℕ) (γ : GName) (ys : List Record) (y : RefT (List ℕ)) (b₂ o₂ : ℕ) (γ₂ : GName) (ds : List ℕ) (n : ℕ) (fits : n < 2 ^ 64) where
+    (b o : ℕ) (γ : GName) (ys : List Record) (y : RefT (List ℕ)) (b₂ o₂ : ℕ) (γ₂ : GName) (ds : List ℕ) (n : ℕ) (fits : n < 2 ^ 64) (shown : Bool) where
   abbrev Arg : Type 0
-  Arg = RefT (List Record) × (RefT (List ℕ) × (RefT (List ℕ) × (ℕ × Unit {0})))
+  Arg = RefT (List Record) × (RefT (List ℕ) × (RefT (List ℕ) × (ℕ × (Bool × Unit {0}))))
 
   abbrev a : Arg
-  a = (record { ptr = (b, o); name = γ; now = ys }, (y, (record { ptr = (b₂, o₂); name = γ₂; now = ds }, (n, tt))))
+  a = (record { ptr = (b, o); name = γ; now = ys }, (y, (record { ptr = (b₂, o₂); name = γ₂; now = ds }, (n, (shown, tt)))))
 
   abbrev st : Val
   st = sliceVal (b, o) (length ys)
@@ -131,8 +131,8 @@ module _ {M : Type 1} (𝓤 : URA M) (H : Heap 𝓤) (A : Atoms 𝓤) (W : Given
   abbrev so : Val
   so = sliceVal (b₂, o₂) (length ds)
 
-  abbrev vals : List Val × (List Val × (List Val × (List Val × Unit {0})))
-  vals = (st ∷ [], (sy ∷ [], (so ∷ [], (vint w64 n ∷ [], tt))))
+  abbrev vals : List Val × (List Val × (List Val × (List Val × (List Val × Unit {0}))))
+  vals = (st ∷ [], (sy ∷ [], (so ∷ [], (vint w64 n ∷ [], (vbool shown ∷ [], tt)))))
 
   abbrev Post : Val → SProp 𝓤
   Post = walkOf 𝓤 H A this.ended stayed (this.clauses 𝓤 H A mem run) .post (((κ, (κ₁, (κ₂, tt))), (q, (q₁, (q₂, tt))), bounds, a, vals), tt)
@@ -159,15 +159,15 @@ module _ {M : Type 1} (𝓤 : URA M) (H : Heap 𝓤) (A : Atoms 𝓤) (W : Given
   abbrev All : List Record → List ℕ → Item 𝓤
   All zs es = ((((Own zs ⊛ Tok) ⊛ Ch) ⊛ ChTok) ⊛ Out es) ⊛ OutTok
 
-  exits : (r : Progress) (zs : List Record) (es : List ℕ) → ChunkListed (y .now) ys n ds r zs es → length zs ≡ length ys → length es ≡ length ds → Is G.the-row r (machG r ∷ []) → ent 𝓤 (mean 𝓤 H A (All zs es)) (Post (machG r))
+  exits : (r : Progress) (zs : List Record) (es : List ℕ) → ChunkListed shown (y .now) ys n ds r zs es → length zs ≡ length ys → length es ≡ length ds → Is G.the-row r (machG r ∷ []) → ent 𝓤 (mean 𝓤 H A (All zs es)) (Post (machG r))
   exits r zs es said same same₂ ok =
       qed W (All zs es ∷ []) ∵
-      suffices ! _ (ends-at 𝓤 H A this.ended stayed (this.clauses 𝓤 H A mem run) W (((κ, (κ₁, (κ₂, tt))), (q, (q₁, (q₂, tt))), bounds, a, vals), tt) (machG r) r (zs, (tt, (es, (tt, tt)))) (same, (tt, (same₂, (tt, tt))))) $
+      suffices ! _ (ends-at 𝓤 H A this.ended stayed (this.clauses 𝓤 H A mem run) W (((κ, (κ₁, (κ₂, tt))), (q, (q₁, (q₂, tt))), bounds, a, vals), tt) (machG r) r (zs, (tt, (es, (tt, (tt, tt))))) (same, (tt, (same₂, (tt, (tt, tt)))))) $
       says ! said $ split ! $ split ! $ split ! $ split ! $ split ! $ move ! (3 ∷ []) $ split ! $
       -- [the chunk's token; true; what the table owns; its token; what the chunk owns; what the output owns; its token]
       move ! (6 ∷ 1 ∷ []) $ join ! $ move ! (1 ∷ 0 ∷ []) $ join ! $ move ! (2 ∷ 0 ∷ []) $ join ! $ frame ! $
       -- [what the table owns; what the chunk owns; what the output owns]
-      nothing ! $ owned ! u64 (Is u64) (uint-makes 𝓤 H A W w64) n _ (refl, fits) $ fjoin ! $ move ! (3 ∷ 0 ∷ []) $ fjoin ! $ move ! (2 ∷ 0 ∷ []) $ fjoin ! $ move ! (1 ∷ 0 ∷ []) $ fjoin ! $ frame ! $
+      nothing ! $ owned ! bool (Is bool) (bool-makes 𝓤 H A W) shown _ refl $ fjoin ! $ owned ! u64 (Is u64) (uint-makes 𝓤 H A W w64) n _ (refl, fits) $ fjoin ! $ move ! (3 ∷ 0 ∷ []) $ fjoin ! $ move ! (2 ∷ 0 ∷ []) $ fjoin ! $ move ! (1 ∷ 0 ∷ []) $ fjoin ! $ frame ! $
       owned ! G.the-row (Is G.the-row) (LL.makes G.the-type G′.the-plain 𝓤 H A) r _ ok $ done !
 
   module _ (𝓣 : Tables 𝓤 H) (known-front-of : Triple 𝓤 (𝓣 .C #front-of) (FrontOf 𝓤 H A mem run)) (known-record-of : Triple 𝓤 (𝓣 .C #record-of) (RecordOf 𝓤 H A mem run)) (known-content-of : Triple 𝓤 (𝓣 .C #content-of) (ContentOf 𝓤 H A mem run)) (known-obey : Triple 𝓤 (𝓣 .C #obey) (Obey 𝓤 H A mem run)) (known-put-next : Triple 𝓤 (𝓣 .C #put-next) (PutNext 𝓤 H A mem run))
@@ -183,16 +183,16 @@ module _ {M : Type 1} (𝓤 : URA M) (H : Heap 𝓤) (A : Atoms 𝓤) (W : Given
 
     -- a run with k turns left
     abbrev Facts : ℕ → Run → Type 0
-    Facts k r = Under (y .now) ys n ds k r
+    Facts k r = Under shown (y .now) ys n ds k r
 
     abbrev so-far : Run → Cursor
-    so-far r = cursorOf (y .now) ys n ds r
+    so-far r = cursorOf shown (y .now) ys n ds r
 
     abbrev answer : Run → Progress
-    answer r = progressOf (y .now) ys n ds r
+    answer r = progressOf shown (y .now) ys n ds r
 
     abbrev outs : Run → List ℕ
-    outs r = outOf (y .now) ys n ds r
+    outs r = outOf shown (y .now) ys n ds r
 
     at-fits : (r : Run) → so-far r .at < 2 ^ 64
     at-fits r = omega (arith, room₁ .0)
@@ -206,9 +206,9 @@ module _ {M : Type 1} (𝓤 : URA M) (H : Heap 𝓤) (A : Atoms 𝓤) (W : Given
     is-answer : (k : ℕ) (r : Run) → Facts k r → Is G.the-row (answer r) (machG (answer r) ∷ [])
     is-answer k r u = LL.owes G.the-type G′.the-laws (answer r) ((refl, at-fits r), ((refl, put-fits k r u), ((refl, u .shape .records), tt)))
 
-    module _ (l₀ l₁ l₂ l₃ l₄ l₅ l₆ l₇ l₈ l₉ l₁₀ l₁₁ l₁₂ l₁₃ l₁₄ l₁₅ l₁₆ : ℕ) where
+    module _ (l₀ l₁ l₂ l₃ l₄ lₛ l₅ l₆ l₇ l₈ l₉ l₁₀ l₁₁ l₁₂ l₁₃ l₁₄ l₁₅ l₁₆ : ℕ) where
       abbrev E : Env 𝓤 H
-      E = (G′.mir, l₀) ∷ (sliceTy (tyRef (named 0) mut recTy), l₁) ∷ (sliceTy (tyRef (named 1) imm (tyInt w8)), l₂) ∷ (sliceTy (tyRef (named 2) mut (tyInt w8)), l₃) ∷ (tyInt w64, l₄) ∷ (D′.mir, l₅) ∷ (I′.mir, l₆) ∷ (sliceTy (tyRef erased imm (tyInt w8)), l₇) ∷ (B′.mir, l₈) ∷ (O′.mir, l₉) ∷ (D′.mir, l₁₀) ∷ (tyBool, l₁₁) ∷ (tyInt w64, l₁₂)
+      E = (G′.mir, l₀) ∷ (sliceTy (tyRef (named 0) mut recTy), l₁) ∷ (sliceTy (tyRef (named 1) imm (tyInt w8)), l₂) ∷ (sliceTy (tyRef (named 2) mut (tyInt w8)), l₃) ∷ (tyInt w64, l₄) ∷ (tyBool, lₛ) ∷ (D′.mir, l₅) ∷ (I′.mir, l₆) ∷ (sliceTy (tyRef erased imm (tyInt w8)), l₇) ∷ (B′.mir, l₈) ∷ (O′.mir, l₉) ∷ (D′.mir, l₁₀) ∷ (tyBool, l₁₁) ∷ (tyInt w64, l₁₂)
           ∷ (tyRef erased mut recTy, l₁₃) ∷ (sliceTy (tyRef erased mut recTy), l₁₄) ∷ (tyRef erased mut (tyInt w8), l₁₅) ∷ (sliceTy (tyRef erased mut (tyInt w8)), l₁₆) ∷ []
 
       -- the loop's index: the turns left, and the run so far
@@ -216,10 +216,10 @@ module _ {M : Type 1} (𝓤 : URA M) (H : Heap 𝓤) (A : Atoms 𝓤) (W : Given
       Index = ℕ × Run
 
       abbrev locals : Cursor → List (Option Val) → List (Option Val)
-      locals c vs = none ∷ is st ∷ is sy ∷ is so ∷ is (vint w64 n) ∷ is (machD c) ∷ vs
+      locals c vs = none ∷ is st ∷ is sy ∷ is so ∷ is (vint w64 n) ∷ is (vbool shown) ∷ is (machD c) ∷ vs
 
       -- [what the table owns; its token; what the chunk owns; its token; what the output owns; its token;
-      --  _16: 6; _15: 8; _14: 10; _13: 12; _12: 14; _11: 16; _10: 18; _9: 20; _8: 22; _7: 24; _6: 26; _5: 28; _4: 30; _3: 32; _2: 34; _1: 36; _0: 38]
+      --  _16: 6; _15: 8; _14: 10; _13: 12; _12: 14; _11: 16; _10: 18; _9: 20; _8: 22; _7: 24; _6: 26; _6: 28; _5: 30; _4: 32; _3: 34; _2: 36; _1: 38; _0: 40]
       abbrev With : List Record → List ℕ → Cursor → List (Option Val) → List (Item 𝓤)
       With zs es c vs = Own zs ∷ Tok ∷ Ch ∷ ChTok ∷ Out es ∷ OutTok ∷ Slots 𝓤 E (locals c vs) []
 
@@ -263,13 +263,13 @@ module _ {M : Type 1} (𝓤 : URA M) (H : Heap 𝓤) (A : Atoms 𝓤) (W : Given
         c = so-far r
 
         abbrev r′ : Run
-        r′ = onward (y .now) ys n ds k r u on
+        r′ = onward shown (y .now) ys n ds k r u on
 
         table-len : length (r .table) ≡ length ys
         table-len = u .shape .table
 
         out-len : length (outs r) ≡ length ds
-        out-len = length-sets ds 0 (linesAfter n (r .said))
+        out-len = length-sets ds 0 (linesAfter shown n (r .said))
 
         is-c : Is D.the-row c (machD c ∷ [])
         is-c = is-so-far (suc k) r u
@@ -296,48 +296,48 @@ module _ {M : Type 1} (𝓤 : URA M) (H : Heap 𝓤) (A : Atoms 𝓤) (W : Given
               -- `_9` is the outcome
               module _ (w : Outcome) (line : ObeySaid 𝓤 H A mem run 0 b o (length ys) γ (r .table) κ₁ q₁ z g w) (ok-w : Is O.the-row w (machO w ∷ [])) where
                 abbrev given : Cursor × List ℕ
-                given = put 𝓤 H A mem run 0 b₂ o₂ (length ds) γ₂ (outs r) c e w
+                given = put 𝓤 H A mem run 0 b₂ o₂ (length ds) γ₂ (outs r) c e w shown
 
                 same-c : given .0 ≡ so-far r′
-                same-c = same-cursor (y .now) ys n ds k r u on (frontOf e) front (z .now) bytes (heldOf g) held (lineOf w) line
+                same-c = same-cursor shown (y .now) ys n ds k r u on (frontOf e) front (z .now) bytes (heldOf g) held (lineOf w) line
 
                 same-o : given .1 ≡ outs r′
-                same-o = same-out (y .now) ys n ds k r u on (frontOf e) front (z .now) bytes (heldOf g) held (lineOf w) line
+                same-o = same-out shown (y .now) ys n ds k r u on (frontOf e) front (z .now) bytes (heldOf g) held (lineOf w) line
 
                 given-len : length (given .1) ≡ length (outs r)
-                given-len = ap length same-o ∙ length-sets ds 0 (linesAfter n (r′ .said)) ∙ sym out-len
+                given-len = ap length same-o ∙ length-sets ds 0 (linesAfter shown n (r′ .said)) ∙ sym out-len
 
                 fits-c : c .at + sizeAhead (frontOf e) < 2 ^ 64
-                fits-c = omega (arith, front-fits (y .now) ys n ds k r u on (frontOf e) front, room₁ .0)
+                fits-c = omega (arith, front-fits shown (y .now) ys n ds k r u on (frontOf e) front, room₁ .0)
 
                 -- the next turn
-                nexts : (x : Cursor) → PutNextSaid 𝓤 H A mem run 0 b₂ o₂ (length ds) γ₂ (outs r) c e w x → Is D.the-row x (machD x ∷ [])
+                nexts : (x : Cursor) → PutNextSaid 𝓤 H A mem run 0 b₂ o₂ (length ds) γ₂ (outs r) c e w shown x → Is D.the-row x (machD x ∷ [])
                     → Sq W (With zs (given .1) c (is (machI e) ∷ is sz ∷ is (machB g) ∷ is (machO w) ∷ is (machD x) ∷ is (vbool (r .going)) ∷ is (vint w64 (length ds)) ∷ is (vptr b o) ∷ is st ∷ is (vptr b₂ o₂) ∷ is so ∷ [])) (runs C Λ E from-next (Turn t))
                 unfolding afterTurn
                 nexts x said ok-x =
                     assigns-last ! (of-opd ! (load ! (from ! (stop !)) (look ! 18 refl))) (from ! (stop !)) (store ! 28 refl (LL.lawful D.the-type D′.the-laws 𝓤 H A W .typed x _ ok-x .0)) $
                     forget ! 6 refl $ forget ! 8 refl $ forget ! 10 refl $ forget ! 12 refl $ forget ! 14 refl $ forget ! 16 refl $ forget ! 18 refl $ forget ! 20 refl $ forget ! 22 refl $ forget ! 24 refl $ forget ! 26 refl $
-                    rewrite ! 0 (λ (l : List Record). Own l) (same-table (y .now) ys n ds k r u on (frontOf e) front (z .now) bytes (heldOf g) held) refl $ rewrite ! 4 (λ (l : List ℕ). Out l) same-o refl $
+                    rewrite ! 0 (λ (l : List Record). Own l) (same-table shown (y .now) ys n ds k r u on (frontOf e) front (z .now) bytes (heldOf g) held) refl $ rewrite ! 4 (λ (l : List ℕ). Out l) same-o refl $
                     rewrite ! 28 (λ (p : Cursor). ‵ (fat fullShare D′.mir l₅ 0 (machD p))) (said .0 ∙ same-c) refl $
-                    use0 W (raw (fact 𝓤 (Facts k r′))) (factI 𝓤 (Facts k r′) (emp 𝓤) (under (y .now) ys n ds k r u on (frontOf e) front (z .now) bytes (heldOf g) held (lineOf w) line (λ h. subst (λ (p : Cursor). p .put ≤ length (given .1)) (said .0) (said .1 h)))) $
+                    use0 W (raw (fact 𝓤 (Facts k r′))) (factI 𝓤 (Facts k r′) (emp 𝓤) (under shown (y .now) ys n ds k r u on (frontOf e) front (z .now) bytes (heldOf g) held (lineOf w) line (λ h. subst (λ (p : Cursor). p .put ≤ length (given .1)) (said .0) (said .1 h)))) $
                     again ! Nearer Inv t (k, r′) (lt-suc-self k)
 
                 puts : Sq W (With zs (outs r) c (is (machI e) ∷ is sz ∷ is (machB g) ∷ is (machO w) ∷ none ∷ is (vbool (r .going)) ∷ is (vint w64 (length ds)) ∷ is (vptr b o) ∷ is st ∷ [])) (runs C Λ E from-put (Turn t))
                 puts =
-                    assigns ! (addr ! (from ! (fld ! refl (hop ! (look-in ! 32 (sub ! 0 refl (whole !))) (stop !))))) (from ! (stop !)) (init ! 8 refl (tt, tt)) $
-                    assigns ! (agg ! (and-then ! (load ! (from ! (stop !)) (look ! 8 refl)) (and-then ! (load ! (from ! (fld ! refl (stop !))) (look-in ! 32 (sub ! 1 refl (whole !)))) (no-more !)))) (from ! (stop !)) (init ! 6 refl (tt, (tt, (record { fits = room₂ .0 }, tt)))) $
+                    assigns ! (addr ! (from ! (fld ! refl (hop ! (look-in ! 34 (sub ! 0 refl (whole !))) (stop !))))) (from ! (stop !)) (init ! 8 refl (tt, tt)) $
+                    assigns ! (agg ! (and-then ! (load ! (from ! (stop !)) (look ! 8 refl)) (and-then ! (load ! (from ! (fld ! refl (stop !))) (look-in ! 34 (sub ! 1 refl (whole !)))) (no-more !)))) (from ! (stop !)) (init ! 6 refl (tt, (tt, (record { fits = room₂ .0 }, tt)))) $
                     nothing ! $ move ! (5 ∷ 6 ∷ 0 ∷ []) $
                     -- [what the output owns; its token; true; what the table owns; its token; what the chunk owns; its token; …]
-                    calls-lent ! fm (PutNext 𝓤 H A mem run) known-put-next u8 (named 2) κ₂ q₂ γ₂ b₂ o₂ (length ds) (outs r) out-len (subst (Room u8) (sym out-len) room₂) (λ ν δ. to-put-next 𝓤 H A mem run ν b₂ o₂ (length ds) δ (outs r) c e w) (‵ ftrue) (‵ ftrue) D.the-row (PutNextSaid 𝓤 H A mem run 0 b₂ o₂ (length ds) γ₂ (outs r) c e w) machD (λ x v. LL.tells D.the-type D′.the-laws x (v ∷ [])) (given .1) given-len
-                    (λ ν δ. goes-put-next 𝓤 H A mem run ν b₂ o₂ (length ds) δ (outs r) c e w W fits-c is-c ok-e ok-w) (λ ν δ. put-next-is 𝓤 H A mem run ν b₂ o₂ (length ds) δ (outs r) c e w W)
-                    (λ ν δ. (and-then ! (load ! (from ! (stop !)) (look ! 6 refl)) (and-then ! (load ! (from ! (stop !)) (look ! 28 refl)) (and-then ! (load ! (from ! (stop !)) (look ! 26 refl)) (and-then ! (load ! (from ! (stop !)) (look ! 20 refl)) (no-more !)))))) (λ x said ok-x.
+                    calls-lent ! fm (PutNext 𝓤 H A mem run) known-put-next u8 (named 2) κ₂ q₂ γ₂ b₂ o₂ (length ds) (outs r) out-len (subst (Room u8) (sym out-len) room₂) (λ ν δ. to-put-next 𝓤 H A mem run ν b₂ o₂ (length ds) δ (outs r) c e w shown) (‵ ftrue) (‵ ftrue) D.the-row (PutNextSaid 𝓤 H A mem run 0 b₂ o₂ (length ds) γ₂ (outs r) c e w shown) machD (λ x v. LL.tells D.the-type D′.the-laws x (v ∷ [])) (given .1) given-len
+                    (λ ν δ. goes-put-next 𝓤 H A mem run ν b₂ o₂ (length ds) δ (outs r) c e w shown W fits-c is-c ok-e ok-w) (λ ν δ. put-next-is 𝓤 H A mem run ν b₂ o₂ (length ds) δ (outs r) c e w shown W)
+                    (λ ν δ. (and-then ! (load ! (from ! (stop !)) (look ! 6 refl)) (and-then ! (load ! (from ! (stop !)) (look ! 28 refl)) (and-then ! (load ! (from ! (stop !)) (look ! 26 refl)) (and-then ! (load ! (from ! (stop !)) (look ! 20 refl)) (and-then ! (load ! (from ! (stop !)) (look ! 30 refl)) (no-more !))))))) (λ x said ok-x.
                     move ! (2 ∷ []) $ drop ! $ move ! (2 ∷ 3 ∷ 4 ∷ 5 ∷ 0 ∷ 1 ∷ []) $
                     land ! (from ! (stop !)) (init ! 18 refl (LL.lawful D.the-type D′.the-laws 𝓤 H A W .typed x _ ok-x .0)) $ nexts x said ok-x)
 
               obeys : Sq W (WithRecord (is (machB g) ∷ none ∷ none ∷ is (vbool (r .going)) ∷ is (vint w64 (length ds)) ∷ [])) (runs C Λ E from-obey (Turn t))
               obeys =
-                  assigns ! (addr ! (from ! (fld ! refl (hop ! (look-in ! 36 (sub ! 0 refl (whole !))) (stop !))))) (from ! (stop !)) (init ! 12 refl (tt, tt)) $
-                  assigns ! (agg ! (and-then ! (load ! (from ! (stop !)) (look ! 12 refl)) (and-then ! (load ! (from ! (fld ! refl (stop !))) (look-in ! 36 (sub ! 1 refl (whole !)))) (no-more !)))) (from ! (stop !)) (init ! 10 refl (tt, (tt, (record { fits = room .0 }, tt)))) $
+                  assigns ! (addr ! (from ! (fld ! refl (hop ! (look-in ! 38 (sub ! 0 refl (whole !))) (stop !))))) (from ! (stop !)) (init ! 12 refl (tt, tt)) $
+                  assigns ! (agg ! (and-then ! (load ! (from ! (stop !)) (look ! 12 refl)) (and-then ! (load ! (from ! (fld ! refl (stop !))) (look-in ! 38 (sub ! 1 refl (whole !)))) (no-more !)))) (from ! (stop !)) (init ! 10 refl (tt, (tt, (record { fits = room .0 }, tt)))) $
                   -- [what the table owns; its token; what goes to the callee beside it; what the chunk owns; what the output owns; its token; …]
                   calls-lent ! fm (Obey 𝓤 H A mem run) known-obey T.the-row (named 0) κ q γ b o (length ys) (r .table) table-len (subst (Room T.the-row) (sym table-len) room) (λ ν δ. to-obey 𝓤 H A mem run ν b o (length ys) δ (r .table) κ₁ q₁ z g) (ChTok ⊛ Part 𝓤 u8 κ₁ z) ChTok O.the-row (ObeySaid 𝓤 H A mem run 0 b o (length ys) γ (r .table) κ₁ q₁ z g) machO (λ w v. EL.tells O.the-type O′.the-laws w (v ∷ [])) zs zs-len
                   (λ ν δ. goes-obey 𝓤 H A mem run ν b o (length ys) δ (r .table) κ₁ q₁ z g W ok-g) (λ ν δ. obey-is 𝓤 H A mem run ν b o (length ys) δ (r .table) κ₁ q₁ z g W)
@@ -357,7 +357,7 @@ module _ {M : Type 1} (𝓤 : URA M) (H : Heap 𝓤) (A : Atoms 𝓤) (W : Given
               -- [what goes to the callee; what the chunk owns; what the table owns; its token; what the output owns; its token; …]
               calls-kept ! fm (RecordOf 𝓤 H A mem run) known-record-of (to-record-of 𝓤 H A mem run κ₁ q₁ y (c .at) e) (ChTok ⊛ Ch) ChTok (ShrSlice (named 0) κ₁ u8) (RecordOfSaid 𝓤 H A mem run κ₁ q₁ y (c .at) e) (λ z. only (slice-vals z)) (λ z v. shr-slice-tells (named 0) κ₁ u8 z (v ∷ []))
               (goes-record-of 𝓤 H A mem run κ₁ q₁ y (c .at) e W (at-fits r) ok-e) (record-of-is 𝓤 H A mem run κ₁ q₁ y (c .at) e W)
-              (and-then ! (load ! (from ! (stop !)) (look ! 34 refl)) (and-then ! (load ! (from ! (fld ! refl (stop !))) (look-in ! 28 (sub ! 0 refl (whole !)))) (and-then ! (load ! (from ! (stop !)) (look ! 26 refl)) (no-more !)))) (λ z bytes is-z.
+              (and-then ! (load ! (from ! (stop !)) (look ! 36 refl)) (and-then ! (load ! (from ! (fld ! refl (stop !))) (look-in ! 28 (sub ! 0 refl (whole !)))) (and-then ! (load ! (from ! (stop !)) (look ! 26 refl)) (no-more !)))) (λ z bytes is-z.
               -- [the record's bytes; the chunk's token; what the chunk owns; what the table owns; its token; what the output owns; its token; …]
               move ! (1 ∷ 0 ∷ []) $ join ! $
               land ! (from ! (stop !)) (init ! 24 refl (tt, (tt, (record { fits = is-z .0 .1 .0 }, tt)))) $
@@ -365,17 +365,30 @@ module _ {M : Type 1} (𝓤 : URA M) (H : Heap 𝓤) (A : Atoms 𝓤) (W : Given
 
         fronts : Sq W (With (r .table) (outs r) c (none ∷ none ∷ none ∷ none ∷ none ∷ is (vbool (r .going)) ∷ [])) (runs C Λ E from-front (Turn t))
         fronts =
-            assigns ! (of-opd ! (load ! (from ! (fld ! refl (stop !))) (look-in ! 32 (sub ! 1 refl (whole !))))) (from ! (stop !)) (init ! 14 refl (tt, record { fits = room₂ .0 })) $
+            assigns ! (of-opd ! (load ! (from ! (fld ! refl (stop !))) (look-in ! 34 (sub ! 1 refl (whole !))))) (from ! (stop !)) (init ! 14 refl (tt, record { fits = room₂ .0 })) $
             move ! (2 ∷ []) $ use1 W (Ch ⊛ Ch) (shr-slice-copy 𝓤 H A W (named 1) κ₁ u8 .twice y (sy ∷ [])) $ split ! $ move ! (4 ∷ 0 ∷ []) $ join ! $
             -- [what goes to the callee; what the chunk owns; what the table owns; its token; what the output owns; its token; …]
             calls-some ! fm (FrontOf 𝓤 H A mem run) known-front-of (to-front-of 𝓤 H A mem run κ₁ q₁ y (c .at) (length ds) (c .put)) (ChTok ⊛ Ch) ChTok I.the-row (FrontOfSaid 𝓤 H A mem run κ₁ q₁ y (c .at) (length ds) (c .put)) machI (λ e v. EL.tells I.the-type I′.the-laws e (v ∷ []))
             (goes-front-of 𝓤 H A mem run κ₁ q₁ y (c .at) (length ds) (c .put) W (at-fits r) (room₂ .0) (put-fits (suc k) r u)) (front-of-is 𝓤 H A mem run κ₁ q₁ y (c .at) (length ds) (c .put) W)
-            (and-then ! (load ! (from ! (stop !)) (look ! 34 refl)) (and-then ! (load ! (from ! (fld ! refl (stop !))) (look-in ! 28 (sub ! 0 refl (whole !)))) (and-then ! (load ! (from ! (stop !)) (look ! 14 refl)) (and-then ! (load ! (from ! (fld ! refl (stop !))) (look-in ! 28 (sub ! 1 refl (whole !)))) (no-more !))))) (λ e front ok-e.
+            (and-then ! (load ! (from ! (stop !)) (look ! 36 refl)) (and-then ! (load ! (from ! (fld ! refl (stop !))) (look-in ! 28 (sub ! 0 refl (whole !)))) (and-then ! (load ! (from ! (stop !)) (look ! 14 refl)) (and-then ! (load ! (from ! (fld ! refl (stop !))) (look-in ! 28 (sub ! 1 refl (whole !)))) (no-more !))))) (λ e front ok-e.
             land ! (from ! (stop !)) (init ! 26 refl (EL.lawful I.the-type I′.the-laws 𝓤 H A W tt .typed e _ ok-e .0)) $ move ! (2 ∷ 3 ∷ 1 ∷ 0 ∷ []) $ records e front ok-e)
 
       goes-on : (k : ℕ) (r : Run) → Facts k r → r .going ≡ true → Sq W (With (r .table) (outs r) (so-far r) (none ∷ none ∷ none ∷ none ∷ none ∷ is (vbool (r .going)) ∷ [])) (runs C Λ E from-front (Turn (k, r)))
       goes-on zero r u on = absurd (not-suc-le-zero (u .shape .fuel on))
       goes-on (suc k) r u on = fronts k r u on
+
+      -- the run has stopped
+      stops : (k : ℕ) (r : Run) → Facts k r → r .going ≡ false → Sq W (With (r .table) (outs r) (so-far r) (none ∷ none ∷ none ∷ none ∷ none ∷ is (vbool (r .going)) ∷ [])) (runs C Λ E mir.t-3 (atRet E Post))
+      stops k r u off =
+          assigns ! (agg ! (and-then ! (load ! (from ! (fld ! refl (stop !))) (look-in ! 28 (sub ! 0 refl (whole !)))) (and-then ! (load ! (from ! (fld ! refl (stop !))) (look-in ! 28 (sub ! 1 refl (whole !)))) (and-then ! (load ! (from ! (fld ! refl (stop !))) (look-in ! 28 (sub ! 2 refl (whole !)))) (no-more !))))) (from ! (stop !)) (init ! 40 refl (LL.lawful G.the-type G′.the-laws 𝓤 H A W .typed (answer r) _ (is-answer k r u) .0)) $
+          -- what was put together is the answer: said here, where the two are compared without what comes after them
+          rewrite ! 40 (λ (v : Val). ‵ (fat fullShare G′.mir l₀ 0 v)) same refl $
+          returns ! (look ! 40 refl) $ join ! $ join ! $ join ! $ join ! $ join ! $
+          freed 𝓤 H A W E (is (machG (answer r)) ∷ is st ∷ is sy ∷ is so ∷ is (vint w64 n) ∷ is (vbool shown) ∷ is (machD (so-far r)) ∷ none ∷ none ∷ none ∷ none ∷ none ∷ is (vbool (r .going)) ∷ []) (All (r .table) (outs r))
+          (exits (answer r) (r .table) (outs r) (ends shown (y .now) ys n ds k r u off) (u .shape .table) (length-sets ds 0 (linesAfter shown n (r .said))) (is-answer k r u))
+        where
+          same : machG (answer r) ≡ machG (answer r)
+          same = refl
 
       turn : (t : Index) → Sq W (Inv t) (runs C Λ E mir.turn-1 (Turn t))
       unfolding afterTurn
@@ -383,11 +396,7 @@ module _ {M : Type 1} (𝓤 : URA M) (H : Heap 𝓤) (A : Atoms 𝓤) (W : Given
           assigns ! (of-opd ! (load ! (from ! (fld ! refl (stop !))) (look-in ! 28 (sub ! 3 refl (whole !))))) (from ! (stop !)) (init ! 16 refl (tt, tt)) $
           first ! $ branches ! (load ! (from ! (stop !)) (look ! 16 refl))
           (λ h. skips ! $ exec ! C Λ E from-front (Turn t) $ goes-on k r u (is-true (r .going) h))
-          (λ h. jumps ! $ exec ! C Λ E mir.t-3 (atRet E Post) $
-          assigns ! (agg ! (and-then ! (load ! (from ! (fld ! refl (stop !))) (look-in ! 28 (sub ! 0 refl (whole !)))) (and-then ! (load ! (from ! (fld ! refl (stop !))) (look-in ! 28 (sub ! 1 refl (whole !)))) (and-then ! (load ! (from ! (fld ! refl (stop !))) (look-in ! 28 (sub ! 2 refl (whole !)))) (no-more !))))) (from ! (stop !)) (init ! 38 refl (LL.lawful G.the-type G′.the-laws 𝓤 H A W .typed (answer r) _ (is-answer k r u) .0)) $
-          returns ! (look ! 38 refl) $ join ! $ join ! $ join ! $ join ! $ join ! $
-          freed 𝓤 H A W E (is (machG (answer r)) ∷ is st ∷ is sy ∷ is so ∷ is (vint w64 n) ∷ is (machD (so-far r)) ∷ none ∷ none ∷ none ∷ none ∷ none ∷ is (vbool (r .going)) ∷ []) (All (r .table) (outs r))
-          (exits (answer r) (r .table) (outs r) (ends (y .now) ys n ds k r u (is-false (r .going) h)) (u .shape .table) (length-sets ds 0 (linesAfter n (r .said))) (is-answer k r u))))
+          (λ h. jumps ! $ exec ! C Λ E mir.t-3 (atRet E Post) $ stops k r u (is-false (r .going) h)))
         where
           k : ℕ
           k = t .0
@@ -396,21 +405,21 @@ module _ {M : Type 1} (𝓤 : URA M) (H : Heap 𝓤) (A : Atoms 𝓤) (W : Given
           r = t .1
 
       abbrev t₀ : Index
-      t₀ = (suc (length (y .now)), start (y .now) ys n ds)
+      t₀ = (suc (length (y .now)), start shown (y .now) ys n ds)
 
       looped : Sq W (Inv t₀) (runs C Λ E mir.t-2 (atRet E Post))
       looped = first ! $ blocks ! $ loops ! 𝓣 Nearer (InvImage·wf (λ (t : Index). t .0) (Nat·lt-wfRel .wf)) Inv turn t₀
 
       -- nothing has been put into the output
-      nothing-out : ds ≡ outs (start (y .now) ys n ds)
+      nothing-out : ds ≡ outs (start shown (y .now) ys n ds)
       unfolding linesAfter
       nothing-out = refl
 
-      body : Sq W (Own ys ∷ Tok ∷ Ch ∷ ChTok ∷ Out ds ∷ OutTok ∷ Slots 𝓤 E (none ∷ is st ∷ is sy ∷ is so ∷ is (vint w64 n) ∷ []) []) (runs C Λ E mir.t-1 (atRet E Post))
+      body : Sq W (Own ys ∷ Tok ∷ Ch ∷ ChTok ∷ Out ds ∷ OutTok ∷ Slots 𝓤 E (none ∷ is st ∷ is sy ∷ is so ∷ is (vint w64 n) ∷ is (vbool shown) ∷ []) []) (runs C Λ E mir.t-1 (atRet E Post))
       body =
-          assigns ! (agg ! (and-then ! (lit ! tt) (and-then ! (lit ! tt) (and-then ! (load ! (from ! (stop !)) (look ! 30 refl)) (and-then ! (true-lit !) (no-more !)))))) (from ! (stop !)) (init ! 28 refl (LL.lawful D.the-type D′.the-laws 𝓤 H A W .typed first-c _ is-first .0)) $
-          rewrite ! 28 (λ (p : Cursor). ‵ (fat fullShare D′.mir l₅ 0 (machD p))) (first-cursor (y .now) ys n ds) refl $ rewrite ! 4 (λ (l : List ℕ). Out l) nothing-out refl $
-          use0 W (raw (fact 𝓤 (Facts (suc (length (y .now))) (start (y .now) ys n ds)))) (factI 𝓤 _ (emp 𝓤) (starts (y .now) ys n ds fits)) $ looped
+          assigns ! (agg ! (and-then ! (lit ! tt) (and-then ! (lit ! tt) (and-then ! (load ! (from ! (stop !)) (look ! 32 refl)) (and-then ! (true-lit !) (no-more !)))))) (from ! (stop !)) (init ! 28 refl (LL.lawful D.the-type D′.the-laws 𝓤 H A W .typed first-c _ is-first .0)) $
+          rewrite ! 28 (λ (p : Cursor). ‵ (fat fullShare D′.mir l₅ 0 (machD p))) (first-cursor shown (y .now) ys n ds) refl $ rewrite ! 4 (λ (l : List ℕ). Out l) nothing-out refl $
+          use0 W (raw (fact 𝓤 (Facts (suc (length (y .now))) (start shown (y .now) ys n ds)))) (factI 𝓤 _ (emp 𝓤) (starts shown (y .now) ys n ds fits)) $ looped
         where
           first-c : Cursor
           first-c = record { at = 0; put = 0; records = n; going = true }
@@ -418,28 +427,28 @@ module _ {M : Type 1} (𝓤 : URA M) (H : Heap 𝓤) (A : Atoms 𝓤) (W : Given
           is-first : Is D.the-row first-c (machD first-c ∷ [])
           is-first = LL.owes D.the-type D′.the-laws first-c ((refl, omega arith), ((refl, omega arith), ((refl, fits), (refl, tt))))
 
-    walk : ent 𝓤 (onEntry 𝓤 H A this.signature (κ, (κ₁, (κ₂, tt))) (q, (q₁, (q₂, tt))) a vals) (WpFn 𝓤 H C Λ code.function (st ∷ sy ∷ so ∷ vint w64 n ∷ []) Post)
+    walk : ent 𝓤 (onEntry 𝓤 H A this.signature (κ, (κ₁, (κ₂, tt))) (q, (q₁, (q₂, tt))) a vals) (WpFn 𝓤 H C Λ code.function (st ∷ sy ∷ so ∷ vint w64 n ∷ vbool shown ∷ []) Post)
     walk =
-        qed W ((Tok ⊛ (‵ (flft κ₁ q₁) ⊛ (OutTok ⊛ ‵ ftrue))) ∷ ‵ (owns (MutSlice (named 0) κ T.the-row ∷ ShrSlice (named 1) κ₁ u8 ∷ MutSlice (named 2) κ₂ u8 ∷ u64 ∷ []) a vals) ∷ []) ∵
+        qed W ((Tok ⊛ (‵ (flft κ₁ q₁) ⊛ (OutTok ⊛ ‵ ftrue))) ∷ ‵ (owns (MutSlice (named 0) κ T.the-row ∷ ShrSlice (named 1) κ₁ u8 ∷ MutSlice (named 2) κ₂ u8 ∷ u64 ∷ bool ∷ []) a vals) ∷ []) ∵
         split ! $ move ! (1 ∷ []) $ split ! $ move ! (1 ∷ []) $ split ! $ move ! (4 ∷ []) $ fsplit ! $ move ! (1 ∷ []) $ fsplit ! $ move ! (1 ∷ []) $ fsplit ! $
         -- [what the output owns; n; what the chunk owns; what the table owns; the output's token; true; the chunk's token; the table's token]
         move ! (6 ∷ 5 ∷ []) $ join ! $ keep ! (4 ∷ 6 ∷ 3 ∷ 0 ∷ 1 ∷ 5 ∷ []) $
-        enter ! C Λ code.function (st ∷ sy ∷ so ∷ vint w64 n ∷ []) _ $
-        alloc1 ! (λ l₀. alloc1 ! (λ l₁. alloc1 ! (λ l₂. alloc1 ! (λ l₃. alloc1 ! (λ l₄. alloc1 ! (λ l₅. alloc1 ! (λ l₆. alloc1 ! (λ l₇. alloc1 ! (λ l₈. alloc1 ! (λ l₉. alloc1 ! (λ l₁₀. alloc1 ! (λ l₁₁. alloc1 ! (λ l₁₂. alloc1 ! (λ l₁₃. alloc1 ! (λ l₁₄. alloc1 ! (λ l₁₅. alloc1 ! (λ l₁₆. alloc0 ! $ params1 ! $
-        pass1 ! (init ! 30 refl (tt, (tt, (record { fits = room .0 }, tt)))) $ pass1 ! (init ! 28 refl (tt, (tt, (record { fits = room₁ .0 }, tt)))) $ pass1 ! (init ! 26 refl (tt, (tt, (record { fits = room₂ .0 }, tt)))) $ pass1 ! (init ! 24 refl (tt, record { fits = fits })) $ pass0 ! $
-        move ! (34 ∷ 35 ∷ 36 ∷ 37 ∷ 38 ∷ 39 ∷ []) $
-        body l₀ l₁ l₂ l₃ l₄ l₅ l₆ l₇ l₈ l₉ l₁₀ l₁₁ l₁₂ l₁₃ l₁₄ l₁₅ l₁₆)))))))))))))))))
+        enter ! C Λ code.function (st ∷ sy ∷ so ∷ vint w64 n ∷ vbool shown ∷ []) _ $
+        alloc1 ! (λ l₀. alloc1 ! (λ l₁. alloc1 ! (λ l₂. alloc1 ! (λ l₃. alloc1 ! (λ l₄. alloc1 ! (λ lₛ. alloc1 ! (λ l₅. alloc1 ! (λ l₆. alloc1 ! (λ l₇. alloc1 ! (λ l₈. alloc1 ! (λ l₉. alloc1 ! (λ l₁₀. alloc1 ! (λ l₁₁. alloc1 ! (λ l₁₂. alloc1 ! (λ l₁₃. alloc1 ! (λ l₁₄. alloc1 ! (λ l₁₅. alloc1 ! (λ l₁₆. alloc0 ! $ params1 ! $
+        pass1 ! (init ! 32 refl (tt, (tt, (record { fits = room .0 }, tt)))) $ pass1 ! (init ! 30 refl (tt, (tt, (record { fits = room₁ .0 }, tt)))) $ pass1 ! (init ! 28 refl (tt, (tt, (record { fits = room₂ .0 }, tt)))) $ pass1 ! (init ! 26 refl (tt, record { fits = fits })) $ pass1 ! (init ! 24 refl (tt, tt)) $ pass0 ! $
+        move ! (36 ∷ 37 ∷ 38 ∷ 39 ∷ 40 ∷ 41 ∷ []) $
+        body l₀ l₁ l₂ l₃ l₄ lₛ l₅ l₆ l₇ l₈ l₉ l₁₀ l₁₁ l₁₂ l₁₃ l₁₄ l₁₅ l₁₆))))))))))))))))))
 
 module _ {M : Type 1} (𝓤 : URA M) (H : Heap 𝓤) (A : Atoms 𝓤) (W : Given 𝓤 H A) (mem : Memory → SProp 𝓤) (run : Routine → Fun 𝓤) (𝓣 : Tables 𝓤 H)
     (known-front-of : Triple 𝓤 (𝓣 .C #front-of) (FrontOf 𝓤 H A mem run)) (known-record-of : Triple 𝓤 (𝓣 .C #record-of) (RecordOf 𝓤 H A mem run)) (known-content-of : Triple 𝓤 (𝓣 .C #content-of) (ContentOf 𝓤 H A mem run)) (known-obey : Triple 𝓤 (𝓣 .C #obey) (Obey 𝓤 H A mem run)) (known-put-next : Triple 𝓤 (𝓣 .C #put-next) (PutNext 𝓤 H A mem run)) where
   this-walks : Walks 𝓤 H A this.ended stayed (WpFn 𝓤 H (𝓣 .C) (𝓣 .Λ) code.function) (this.clauses 𝓤 H A mem run)
-  this-walks = walked 𝓤 H A this.ended stayed (this.clauses 𝓤 H A mem run) (WpFn 𝓤 H (𝓣 .C) (𝓣 .Λ) code.function) (λ κs. (slice-vals, (slice-vals, (slice-vals, (uint-vals w64, tt)))))
-      (λ κs. (mut-slice-tells (named 0) (κs .0) T.the-row, (shr-slice-tells (named 1) (κs .1 .0) u8, (mut-slice-tells (named 2) (κs .1 .1 .0) u8, (uint-tells w64, tt)))))
+  this-walks = walked 𝓤 H A this.ended stayed (this.clauses 𝓤 H A mem run) (WpFn 𝓤 H (𝓣 .C) (𝓣 .Λ) code.function) (λ κs. (slice-vals, (slice-vals, (slice-vals, (uint-vals w64, (bool-vals, tt))))))
+      (λ κs. (mut-slice-tells (named 0) (κs .0) T.the-row, (shr-slice-tells (named 1) (κs .1 .0) u8, (mut-slice-tells (named 2) (κs .1 .1 .0) u8, (uint-tells w64, (bool-tells, tt))))))
       (λ κs qs bounds a g are. via 𝓤 _ (fst∗ 𝓤 _ (emp 𝓤))
-      (walk 𝓤 H A W mem run (κs .0) (κs .1 .0) (κs .1 .1 .0) bounds (qs .0) (qs .1 .0) (qs .1 .1 .0) (a .0 .ptr .0) (a .0 .ptr .1) (a .0 .name) (a .0 .now) (a .1 .0) (a .1 .1 .0 .ptr .0) (a .1 .1 .0 .ptr .1) (a .1 .1 .0 .name) (a .1 .1 .0 .now) (a .1 .1 .1 .0) (are .1 .1 .1 .0 .1) 𝓣 known-front-of known-record-of known-content-of known-obey known-put-next (are .0 .0 .1) (are .1 .0 .0 .1) (are .1 .1 .0 .0 .1)))
+      (walk 𝓤 H A W mem run (κs .0) (κs .1 .0) (κs .1 .1 .0) bounds (qs .0) (qs .1 .0) (qs .1 .1 .0) (a .0 .ptr .0) (a .0 .ptr .1) (a .0 .name) (a .0 .now) (a .1 .0) (a .1 .1 .0 .ptr .0) (a .1 .1 .0 .ptr .1) (a .1 .1 .0 .name) (a .1 .1 .0 .now) (a .1 .1 .1 .0) (are .1 .1 .1 .0 .1) (a .1 .1 .1 .1 .0) 𝓣 known-front-of known-record-of known-content-of known-obey known-put-next (are .0 .0 .1) (are .1 .0 .0 .1) (are .1 .1 .0 .0 .1)))
 
   this-meets : Meets 𝓤 H A this.signature (WpFn 𝓤 H (𝓣 .C) (𝓣 .Λ) code.function) (this.spec 𝓤 H A mem run)
-  this-meets = walk-meets 𝓤 H A this.ended stayed W (goes-slice 𝓤 H A W 3 0 tt (plain (λ _. T.the-row)), (goes-none-slice 𝓤 H A W 3 (1 ∷ []) tt (plain (λ _. u8)) yes, (goes-slice 𝓤 H A W 3 2 tt (plain (λ _. u8)), (goes-none 𝓤 H A W 3 (λ _. u64) yes (λ κs x f. refl), tt)))) (this.clauses 𝓤 H A mem run)
+  this-meets = walk-meets 𝓤 H A this.ended stayed W (goes-slice 𝓤 H A W 3 0 tt (plain (λ _. T.the-row)), (goes-none-slice 𝓤 H A W 3 (1 ∷ []) tt (plain (λ _. u8)) yes, (goes-slice 𝓤 H A W 3 2 tt (plain (λ _. u8)), (goes-none 𝓤 H A W 3 (λ _. u64) yes (λ κs x f. refl), (goes-none 𝓤 H A W 3 (λ _. bool) yes (λ κs x f. refl), tt))))) (this.clauses 𝓤 H A mem run)
       (WpFn 𝓤 H (𝓣 .C) (𝓣 .Λ) code.function) (WpFn-mono 𝓤 H (W .laws) 𝓣 code.function) this-walks
 
 pub list-chunk-spec : {M : Type 1} → stated.statement M

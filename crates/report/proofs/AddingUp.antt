@@ -1,0 +1,30 @@
+-- The kinds add up to the accepted frames. Assumes nothing.
+use Prim.Native.Nat.{ℕ, suc, _+_}
+use mathlib.Core.Path.{_≡_, refl}
+use mathlib.Core.Bool.{cond}
+use mathlib.Core.List.{List, [], _∷_}
+use native.Mathlib.Omega.{arith}
+use lib.Dec.{eqb}
+use lib.ListN.{length}
+use Rattle.presentation.specs.declared.Kind.{Kind}
+use Rattle.presentation.specs.declared.Kind.the-variants.{None, Cut, Outside, Late, Ahead}
+use Rattle.report.specs.Report.{Shown, howMany, kindNumber, isKind, countsOf, kindsOf}
+use Rattle.report.specs.Totals.{KindsAddUp}
+
+-- one frame more, of any kind
+one-kind : (kind : Kind) (a b c d e n : ℕ) → a + b + c + d + e ≡ n
+    → (let k = kindNumber kind in cond (eqb 0 k) (suc a) a + cond (eqb 1 k) (suc b) b + cond (eqb 2 k) (suc c) c + cond (eqb 3 k) (suc d) d + cond (eqb 4 k) (suc e) e ≡ suc n)
+one-kind None a b c d e n h = omega arith
+one-kind Cut a b c d e n h = omega arith
+one-kind Outside a b c d e n h = omega arith
+one-kind Late a b c d e n h = omega arith
+one-kind Ahead a b c d e n h = omega arith
+
+each-one : (xs : List Shown) → howMany (isKind None) xs + howMany (isKind Cut) xs + howMany (isKind Outside) xs + howMany (isKind Late) xs + howMany (isKind Ahead) xs ≡ length xs
+unfolding howMany
+each-one [] = refl
+each-one (x ∷ xs) = one-kind (x .timing .kind) _ _ _ _ _ _ (each-one xs)
+
+pub kinds-add-up : KindsAddUp
+unfolding countsOf kindsOf
+kinds-add-up xs h = let e = each-one xs in omega arith

@@ -1,0 +1,4 @@
+pub mod Report
+pub mod Totals
+pub mod InChunks
+pub mod Example

@@ -1,0 +1,3 @@
+pub mod Differences
+pub mod Lengths
+pub mod Tables

@@ -1,0 +1,16 @@
+use borrow.Author.Tests.{lt-ltb, le-ltb}
+use borrow.Author.Needs.{needs}
+use Rattle.tally.specs.Tally.{raised}
+use Rattle.tally.proofs.raise.Statement.{statement}
+use Rattle.tally.proofs.raise.Tie as tie
+
+returns : tie.Need-returns
+unfolding raised
+returns c = rw (lt-ltb _ _ (c .if1 .taken))
+
+returns-2 : tie.Need-returns-2
+unfolding raised
+returns-2 c = rw (le-ltb _ _ (c .if1 .left))
+
+pub raise-spec : {M : Type 1} → statement M
+raise-spec = tie.close (tie.spec (λ c. search needs) returns returns-2)

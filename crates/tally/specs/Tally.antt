@@ -1,0 +1,90 @@
+-- What a stream's presentation times come to, one accepted frame after the other (request #104).
+use Prim.Native.Nat.{ℕ, _+_, _-_, _*_, _%_, _^_, min}
+use mathlib.Core.Bool.{Bool, true, false, cond}
+use lib.Dec.{ltb}
+use lib.IntN.{ℤ, pos, negsuc, _-ℤ_}
+use Rattle.presentation.specs.declared.Kind.{Kind}
+use Rattle.presentation.specs.declared.Kind.the-variants.{None, Cut, Outside, Late, Ahead}
+use Rattle.presentation.specs.declared.Timing.{Timing}
+use Rattle.tally.specs.declared.Kinds.{Kinds}
+use Rattle.tally.specs.declared.Sums.{Sums}
+use Rattle.tally.specs.declared.Tally.{Tally}
+
+-- ---- Nothing counted
+
+abbrev noKinds : Kinds
+noKinds = record { none = 0; cut = 0; outside = 0; late = 0; ahead = 0 }
+
+abbrev noSums : Sums
+noSums = record { «sum_above» = 0; unsummed = 0; summed = 0; «largest_above» = 0; «smallest_below» = 0 }
+
+unfoldable pub noTally : Tally
+noTally = record { kinds = noKinds; sums = noSums }
+
+-- ---- How many frames had each kind
+
+-- up by 1; a count stays at 18,446,744,073,709,551,615 once there
+unfoldable pub raised : ℕ → ℕ
+raised n = cond (ltb n 18_446_744_073_709_551_615) (n + 1) n
+
+unfoldable pub kindsAfter : Kind → Kinds → Kinds
+kindsAfter None k = record { none = raised (k .none); cut = k .cut; outside = k .outside; late = k .late; ahead = k .ahead }
+kindsAfter Cut k = record { none = k .none; cut = raised (k .cut); outside = k .outside; late = k .late; ahead = k .ahead }
+kindsAfter Outside k = record { none = k .none; cut = k .cut; outside = raised (k .outside); late = k .late; ahead = k .ahead }
+kindsAfter Late k = record { none = k .none; cut = k .cut; outside = k .outside; late = raised (k .late); ahead = k .ahead }
+kindsAfter Ahead k = record { none = k .none; cut = k .cut; outside = k .outside; late = k .late; ahead = raised (k .ahead) }
+
+-- ---- Sums, over those late or ahead
+
+abbrev pub isTimed : Kind → Bool
+isTimed None = false
+isTimed Cut = false
+isTimed Outside = false
+isTimed Late = true
+isTimed Ahead = true
+
+-- how far an offset is above the lowest, −2,147,483,648; one past either end, which no frame has, counts as that end
+abbrev pub aboveLowest : ℤ → ℕ
+aboveLowest (pos n) = min (2_147_483_648 + n) 4_294_967_295
+aboveLowest (negsuc n) = 2_147_483_647 - n
+
+abbrev pub greater : ℕ → ℕ → ℕ
+greater a b = cond (ltb a b) b a
+
+-- the first 1,000,000 are summed, and those after them counted
+unfoldable pub sumsAfter : ℕ → Sums → Sums
+sumsAfter above s =
+    cond (ltb (s .summed) 1_000_000)
+    (record {
+      «sum_above» = (s .«sum_above» + above) % 2 ^ 64;
+      unsummed = s .unsummed;
+      summed = s .summed + 1;
+      «largest_above» = greater (s .«largest_above») above;
+      «smallest_below» = greater (s .«smallest_below») (4_294_967_295 - above);
+    })
+    (record {
+      «sum_above» = s .«sum_above»;
+      unsummed = raised (s .unsummed);
+      summed = s .summed;
+      «largest_above» = s .«largest_above»;
+      «smallest_below» = s .«smallest_below»;
+    })
+
+-- what the sums stand for
+abbrev pub smallest : Sums → ℤ
+smallest s = pos 2_147_483_647 -ℤ pos (s .«smallest_below»)
+
+abbrev pub largest : Sums → ℤ
+largest s = pos (s .«largest_above») -ℤ pos 2_147_483_648
+
+abbrev pub sum : Sums → ℤ
+sum s = pos (s .«sum_above») -ℤ pos (s .summed * 2_147_483_648)
+
+-- ---- Both
+
+unfoldable pub counted : Timing → Tally → Tally
+counted t y =
+    record {
+      kinds = kindsAfter (t .kind) (y .kinds);
+      sums = cond (isTimed (t .kind)) (sumsAfter (aboveLowest (t .offset)) (y .sums)) (y .sums);
+    }

@@ -1,0 +1,177 @@
+#!/usr/bin/env bash
+# Compares the first report program with the second, on generated captures.
+#
+#   compare_reports.sh [--million] REPORTER [SEED [COUNT]]
+#
+# REPORTER is the first program: it reports the capture file named, or a capture on
+# standard input. Both programs report COUNT captures made from SEED, each in a call
+# of its own, and their visit reports must agree byte for byte; some captures also go
+# to the first program through a pipe in small pieces. With --million one more is
+# reported, of about 200 million bytes, in which a stream has more ahead or late
+# frames than are summed. The first program has to say what is wrong where it is given
+# no capture or two. Then it is shown how often each thing that a report can say came
+# up, and each that must come up has to. A capture that differs is named by its
+# number; it is made again by `generate DIR SEED COUNT`, or `generate --million FILE`.
+set -euo pipefail
+
+million=false
+if [[ ${1-} == --million ]]; then
+    million=true
+    shift
+fi
+if (($# < 1 || $# > 3)); then
+    echo "usage: compare_reports.sh [--million] REPORTER [SEED [COUNT]]" >&2
+    exit 2
+fi
+
+# shellcheck source-path=SCRIPTDIR source=comparing.sh
+source "$(dirname "${BASH_SOURCE[0]}")/comparing.sh"
+prepare "$1" second_report
+make_captures "${2:-104}" "${3:-400}"
+
+# --- Reports ----------------------------------------------------------------
+
+reports=$work/reports
+: >"$reports"
+
+# Compares the two reports of a capture, and keeps one, after a line that names the
+# capture.
+compare_report() {
+    local name=$1
+    "$second" "$name" >"$second_out"
+    { echo "capture ${name%.cap}"; cat "$second_out"; } >>"$reports"
+    if ! agrees "$name"; then
+        differs "$name" "reported from its file"
+    fi
+}
+
+for name in "${captures[@]}"; do
+    compare_report "$name"
+done
+compare_piped
+if [[ $million == true ]]; then
+    "$work/generate" --million million.cap
+    compare_report million.cap
+    captures+=(million.cap)
+fi
+
+# --- Names ------------------------------------------------------------------
+
+# Gives the first program names that stand for no capture or for two: as the second
+# does, it has to say what is wrong, and to print no report. Its exit status is 0 in
+# every case.
+complains() {
+    run_first "$@"
+    if [[ -s $first_out || ! -s $work/errors ]]; then
+        differing[$*]=yes
+        echo "differs: given $*, the first program doesn't just say what is wrong;" \
+            "status $status, $(wc -c <"$first_out") bytes printed"
+    fi
+}
+
+name=${captures[${#captures[@]} / 2]}
+complains no-such.cap
+complains .
+complains "$name" "$name"
+"$second" "$name" >"$second_out"
+agrees - <"$name" || differs "$name" "on standard input, as -"
+
+# --- What came up -----------------------------------------------------------
+
+covered=true
+awk -v million="$million" "$counting"'
+    BEGIN {
+        known("report of no stream")
+        known("report of one stream")
+        known("report of 2 to 63 streams")
+        known("report of 64 streams")
+        known("ids not in order")
+        known("id 0")
+        known("id 18446744073709551615")
+        # The columns after the id, up to the kinds.
+        split("frames,sequence,block,format,mr,none,cut,outside,late,ahead", column, ",")
+        for (i = 1; i <= 10; i++) if (column[i] != "cut") known(column[i] " above 0")
+        known("none: no frame")
+        known("none: frames of other kinds")
+        known("only late")
+        known("only ahead")
+        known("smallest -2147483648")
+        known("largest 2147483647")
+        known("smallest below largest")
+        known("sum below 0")
+        known("sum 0")
+        known("sum above 0")
+        known("sum past 32 bits")
+        known("mean over 1")
+        known("mean over several")
+        known("mean that could be reduced")
+        known("mean 0 over several")
+        if (million == "true") {
+            known("million: some not summed")
+            known("million: 1000000, all summed")
+            known("million: 999999, all summed")
+        }
+        # A frame whose stamp would be cut is refused 14.
+        forbidden("cut above 0")
+        forbidden("not summed above 0")
+    }
+    function below(id, other) {
+        return length(id) == length(other) ? id "" < other "" : length(id) < length(other)
+    }
+    function common_factor(a, b,   rest) {
+        while (b) {
+            rest = a % b
+            a = b
+            b = rest
+        }
+        return a
+    }
+    # Answers whether a line is one of a report, with numbers that go together.
+    function sound() {
+        if (NF != 16 || $7 + $8 + $9 + $10 + $11 != $2) return 0
+        if ($10 + $11 == 0) return /^[0-9 ]+ none none none none 0$/
+        if (!/^[0-9 ]+ -?[0-9]+ -?[0-9]+ -?[0-9]+ -?[0-9]+\/[0-9]+ [0-9]+$/) return 0
+        return $12 <= $13 && $15 == $14 "/" ($10 + $11 - $16)
+    }
+    # Counts what a line says of offsets.
+    function offsets_came(   summed) {
+        summed = $10 + $11 - $16
+        if ($10 == 0 || $11 == 0) came($10 == 0 ? "only ahead" : "only late")
+        if ($12 == -2147483648) came("smallest -2147483648")
+        if ($13 == 2147483647) came("largest 2147483647")
+        if ($12 < $13) came("smallest below largest")
+        came("sum " ($14 < 0 ? "below 0" : $14 > 0 ? "above 0" : "0"))
+        if ($14 < -2147483648 || $14 > 4294967295) came("sum past 32 bits")
+        came(summed == 1 ? "mean over 1" : "mean over several")
+        if (common_factor($14 < 0 ? -$14 : $14, summed) > 1) came("mean that could be reduced")
+        if ($14 == 0 && summed > 1) came("mean 0 over several")
+        if ($16 > 0) came(capture == "million" ? "million: some not summed" : "not summed above 0")
+        else if (summed >= 999999) came("million: " summed ", all summed")
+    }
+    function report_came() {
+        if (streams < 2) came("report of " (streams ? "one stream" : "no stream"))
+        else came("report of " (streams < 64 ? "2 to 63" : streams) " streams")
+        if (disordered) came("ids not in order")
+    }
+    $1 == "capture" && NF == 2 {
+        if (NR > 1) report_came()
+        capture = $2
+        streams = disordered = 0
+        next
+    }
+    !sound() { came("any other line"); next }
+    {
+        if (streams++ && below($1, last)) disordered = 1
+        last = $1
+        if ($1 == "0" || $1 == "18446744073709551615") came("id " $1)
+        for (i = 1; i <= 10; i++) if ($(i + 1) > 0) came(column[i] " above 0")
+        if ($12 != "none") offsets_came()
+        else came($2 == 0 ? "none: no frame" : "none: frames of other kinds")
+    }
+    END {
+        report_came()
+        exit !shown()
+    }
+' "$reports" || covered=false
+
+conclude "$covered"

@@ -1,0 +1,143 @@
+# shellcheck shell=bash disable=SC2034,SC2119,SC2120
+# What the comparisons of a first program with a second have in common. Each
+# sources this file.
+
+# This folder, and one for all that is made, which goes at the end.
+here=$(cd "$(dirname "${BASH_SOURCE[0]}")" && pwd)
+work=$(mktemp -d)
+trap 'rm -rf "$work"' EXIT
+
+# Longest that one call of the first program may take, in seconds.
+patience=120
+
+# --- Build and unit tests ---------------------------------------------------
+
+# Builds the second programs and runs their own tests. The programs to compare are
+# then `first`, by its path, and `second`, by its name: `prepare PATH NAME`.
+prepare() {
+    if [[ ! -f $1 || ! -x $1 ]]; then
+        echo "$(basename "$0"): $1: no program" >&2
+        exit 2
+    fi
+    first=$(cd "$(dirname "$1")" && pwd)/$(basename "$1")
+    second=$work/$2
+    "$here/build.sh" "$work"
+    "$here/own_tests.sh" "$work"
+}
+
+# --- Captures ---------------------------------------------------------------
+
+# What the two programs print for the same captures.
+first_out=$work/first.out
+second_out=$work/second.out
+# Every one of this many captures goes through a pipe too.
+piped_each=17
+# The captures for which they print something different, by name.
+declare -A differing=()
+
+# Makes captures and goes to their folder; `captures` are their names:
+# `make_captures SEED COUNT`.
+make_captures() {
+    seed=$1
+    "$work/generate" "$work/captures" "$seed" "$2"
+    cd "$work/captures" || exit
+    captures=(*.cap)
+}
+
+# Runs the first program on the files given, or on standard input, and sets the
+# status.
+status=0
+run_first() {
+    status=0
+    timeout "$patience" "$first" "$@" >"$first_out" 2>"$work/errors" || status=$?
+}
+
+# Runs it so, and answers whether it prints what the second program did.
+agrees() {
+    run_first "$@"
+    ((status == 0)) && cmp -s "$first_out" "$second_out"
+}
+
+# Says how the two differ, for the first ten captures: `differs CAPTURE HOW`.
+differs() {
+    local name=$1 how=$2
+    differing[$name]=yes
+    if ((${#differing[@]} > 10)); then
+        return
+    fi
+    echo "differs: capture ${name%.cap} of seed $seed, $how"
+    if ((status != 0)); then
+        echo "  status $status; $(head -n 1 "$work/errors")"
+    fi
+    # The first line that only one of them has.
+    { diff "$first_out" "$second_out" || true; } >"$work/diff"
+    echo "  first program:  $(grep -m 1 '^<' "$work/diff" || echo '(nothing more)')"
+    echo "  second program: $(grep -m 1 '^>' "$work/diff" || echo '(nothing more)')"
+}
+
+# Gives some of the captures to the first program through a pipe, in small pieces.
+compare_piped() {
+    local i name piece pieces=(1 7 100) piped=0
+    for ((i = 0; i < ${#captures[@]}; i += piped_each)); do
+        name=${captures[i]}
+        piece=${pieces[piped % 3]}
+        if ((piece == 1 && $(wc -c <"$name") > 200000)); then
+            piece=100
+        fi
+        "$second" "$name" >"$second_out"
+        if ! agrees < <("$work/generate" --drip "$name" "$piece"); then
+            differs "$name" "piped $piece bytes at a time"
+        fi
+        piped=$((piped + 1))
+    done
+    echo "captures: ${#captures[@]} of seed $seed, $(cat -- *.cap | wc -c) bytes;" \
+        "$piped of them piped too"
+}
+
+# --- What came up -----------------------------------------------------------
+
+# Functions for awk that count what came up. `known` names a thing that has to come
+# up, `forbidden` one that may not, and `came` says that one did: any other line,
+# where it is neither. `shown` shows how often each came up, and answers whether that
+# is as it must be.
+counting='
+    function known(name) {
+        order[++names] = name
+        count[name] += 0
+    }
+    function forbidden(name) {
+        known(name)
+        may_not[name] = 1
+    }
+    function came(name) {
+        count[name in count ? name : "any other line"]++
+    }
+    function shown(   i, name, as_it_must_be) {
+        forbidden("any other line")
+        as_it_must_be = 1
+        for (i = 1; i <= names; i++) {
+            name = order[i]
+            printf "  %-28s %d%s\n", name, count[name], may_not[name] ? " (none may come up)" : ""
+            if (may_not[name] ? count[name] > 0 : count[name] == 0) {
+                print (may_not[name] ? "came up, and may not: " : "not covered: ") name
+                as_it_must_be = 0
+            }
+        }
+        return as_it_must_be
+    }
+'
+
+# Says what the comparison of the captures came to, given whether all came up that
+# must.
+conclude() {
+    local covered=$1
+    if ((${#differing[@]} > 0)); then
+        echo "comparison: ${#captures[@]} captures, ${#differing[@]} differ"
+        exit 1
+    fi
+    if [[ $covered == false ]]; then
+        echo "comparison: ${#captures[@]} captures agree, but not all that must come up did"
+        exit 1
+    fi
+    echo "comparison: ${#captures[@]} captures, 0 differ"
+}

@@ -1,0 +1,66 @@
+//! A capture with more frames of a stream than a visit report sums.
+
+use crate::captures::Capture;
+use crate::chance::Chance;
+use crate::visits::Visitor;
+use std::fs::File;
+use std::io::{self, BufWriter, Write};
+use std::path::Path;
+
+/// Ahead or late frames of a stream that a visit report sums.
+const MOST_SUMMED: u64 = 1_000_000;
+
+/// An arrival from which every offset leads to a time, as from the later ones here.
+const FIRST_ARRIVAL: u64 = 1 << 40;
+
+/// Puts in, for each stream, a frame without a stamp, one whose time is below 0 and an
+/// admission that is refused; none of them counts towards the million.
+fn put_others(chance: &mut Chance, capture: &mut Capture, visitors: [&mut Visitor; 3]) {
+    for visitor in visitors {
+        visitor.send(chance, capture, (FIRST_ARRIVAL, None));
+        visitor.send(chance, capture, (0, Some(i32::MIN)));
+        capture.admit(visitor.id());
+    }
+}
+
+/// Writes a capture of three streams whose frames take turns. One has exactly a million
+/// ahead or late frames after its last admission, one has one fewer, and one goes on
+/// past the million with offsets that would show in all that is summed.
+pub fn write_million(path: &Path) -> io::Result<()> {
+    let mut out = BufWriter::with_capacity(1 << 20, File::create(path)?);
+    let chance = &mut Chance::new(104, 0);
+    let mut capture = Capture::new(usize::MAX);
+    let [mut over, mut exact, mut under] = [3, 1, 2].map(|id| Visitor::new(chance, id));
+    for id in [over.id(), exact.id(), under.id()] {
+        capture.admit(id);
+    }
+    // The numbers up to a removal are dropped.
+    for offset in [-5, 5, 0] {
+        exact.send(chance, &mut capture, (FIRST_ARRIVAL, Some(offset)));
+    }
+    capture.remove(exact.id());
+    capture.admit(exact.id());
+
+    for round in 1..=MOST_SUMMED {
+        let at = FIRST_ARRIVAL + 125_000 * round;
+        let near = chance.below(2_000_001) as i32 - 1_000_000;
+        over.send(chance, &mut capture, (at, Some(near)));
+        // The millionth is one that shows.
+        let far = if round < MOST_SUMMED { i32::MAX } else { i32::MIN };
+        exact.send(chance, &mut capture, (at, Some(far)));
+        if round < MOST_SUMMED {
+            under.send(chance, &mut capture, (at, Some(i32::MIN)));
+        }
+        if round % (MOST_SUMMED / 4) == 0 {
+            put_others(chance, &mut capture, [&mut over, &mut exact, &mut under]);
+        }
+        capture.write_out(&mut out)?;
+    }
+
+    for offset in [i32::MAX, i32::MIN, i32::MIN, -1, 0, i32::MIN, i32::MAX] {
+        over.send(chance, &mut capture, (FIRST_ARRIVAL, Some(offset)));
+    }
+    put_others(chance, &mut capture, [&mut over, &mut exact, &mut under]);
+    capture.write_out(&mut out)?;
+    out.flush()
+}

@@ -1,0 +1,207 @@
+//! Captures for visit reports: many streams, removed and admitted again, each with
+//! offsets of its own kind.
+
+use crate::captures::{Capture, SMALL};
+use crate::chance::Chance;
+use crate::senders::{stream_ids, Sender};
+use crate::times::{arrival, offset, stamp};
+
+/// What the frames of a stream are like, from one admission to the next.
+#[derive(Clone, Copy)]
+enum Habit {
+    /// There are none.
+    Silent,
+    /// They have no stamp.
+    Unstamped,
+    /// Their times are below 0 or past 64 bits.
+    Outside,
+    Late,
+    Ahead,
+    /// Their offsets are the least or the greatest.
+    AtTheEdges,
+    /// Their offsets come to 0.
+    Balanced,
+    Any,
+}
+
+/// When a frame arrives, and its offset if it has a stamp.
+type Times = (u64, Option<i32>);
+
+/// An arrival from which every offset leads to a time, often the first or the last
+/// of these.
+fn inside(chance: &mut Chance) -> u64 {
+    let (first, last) = (1 << 31, (1u64 << 31).wrapping_neg());
+    match chance.below(4) {
+        0 => first,
+        1 => last,
+        _ => first + chance.next() % (last - first),
+    }
+}
+
+/// An arrival near either end of the times, and an offset that leads past it.
+fn outside(chance: &mut Chance) -> Times {
+    let near = chance.below(1000) as u64;
+    if chance.flip() {
+        (near, Some(chance.pick(&[i32::MIN, -1_000_000, -1000])))
+    } else {
+        (u64::MAX - near, Some(chance.pick(&[i32::MAX, 1_000_000, 1000])))
+    }
+}
+
+/// Offsets that come to 0.
+fn balanced(chance: &mut Chance) -> Vec<i32> {
+    let some = chance.next() as i32 >> 2;
+    let other = chance.next() as i32 >> 2;
+    match chance.below(4) {
+        0 => vec![0],
+        1 => vec![some, -some],
+        2 => vec![some, -some - other, other],
+        _ => vec![i32::MIN, 1, i32::MAX],
+    }
+}
+
+impl Habit {
+    fn any(chance: &mut Chance) -> Habit {
+        chance.pick(&[
+            Habit::Silent,
+            Habit::Unstamped,
+            Habit::Outside,
+            Habit::Late,
+            Habit::Ahead,
+            Habit::AtTheEdges,
+            Habit::Balanced,
+            Habit::Any,
+        ])
+    }
+
+    /// The times of the next frames.
+    fn times(self, chance: &mut Chance) -> Vec<Times> {
+        let any = offset(chance);
+        let offsets = match self {
+            Habit::Silent => return vec![],
+            Habit::Unstamped => return vec![(arrival(chance), None)],
+            Habit::Outside => return vec![outside(chance)],
+            Habit::Any => return vec![(arrival(chance), (!chance.one_in(4)).then_some(any))],
+            Habit::Late => vec![any.min(-1 - any)],
+            Habit::Ahead => vec![any.max(-1 - any)],
+            Habit::AtTheEdges => vec![chance.pick(&[i32::MIN, i32::MAX])],
+            Habit::Balanced => balanced(chance),
+        };
+        offsets.into_iter().map(|offset| (inside(chance), Some(offset))).collect()
+    }
+}
+
+/// A stream and its habit. Its frames have no blocks, so that there is room for many.
+pub struct Visitor {
+    sender: Sender,
+    habit: Habit,
+}
+
+impl Visitor {
+    pub fn new(chance: &mut Chance, id: u64) -> Visitor {
+        Visitor { sender: Sender::new(chance, id), habit: Habit::any(chance) }
+    }
+
+    pub fn id(&self) -> u64 {
+        self.sender.frame.stream_id
+    }
+
+    /// Puts in the stream's next frame, which now and then raises a flag.
+    pub fn send(&mut self, chance: &mut Chance, capture: &mut Capture, times: Times) {
+        let (arrival, offset) = times;
+        if chance.one_in(8) {
+            self.sender.stray(chance);
+        }
+        self.sender.most_blocks = 0;
+        let mut frame = self.sender.send(chance, arrival);
+        frame.sph = false;
+        frame.tv = offset.is_some();
+        if let Some(offset) = offset {
+            frame.stamp(stamp(arrival, offset));
+        }
+        capture.frame(arrival, &frame.bytes());
+    }
+
+    /// Puts in frames as the stream's habit is.
+    fn visit(&mut self, chance: &mut Chance, capture: &mut Capture) {
+        for times in self.habit.times(chance) {
+            self.send(chance, capture, times);
+        }
+    }
+
+    /// Admits the stream, which takes up another habit, so that numbers that it had
+    /// before would show.
+    fn admit(&mut self, chance: &mut Chance, capture: &mut Capture) {
+        capture.admit(self.id());
+        self.habit = Habit::any(chance);
+    }
+}
+
+/// Removes some streams, and admits them again in another order.
+fn change_places(chance: &mut Chance, capture: &mut Capture, visitors: &mut [Visitor]) {
+    let which: Vec<usize> =
+        (0..chance.within(2, 6)).map(|_| chance.below(visitors.len())).collect();
+    for &visitor in &which {
+        capture.remove(visitors[visitor].id());
+    }
+    for &visitor in which.iter().rev() {
+        visitors[visitor].admit(chance, capture);
+    }
+}
+
+/// What comes next: frames of a stream, or an admission or removal, often a refused
+/// one.
+fn turn(chance: &mut Chance, capture: &mut Capture, visitors: &mut [Visitor]) {
+    let which = chance.below(visitors.len());
+    let visitor = &mut visitors[which];
+    match chance.below(24) {
+        0 => capture.admit(visitor.id()),
+        1 => capture.admit(chance.next()),
+        2 => capture.remove(chance.next()),
+        3 => capture.remove(visitor.id()),
+        4 => {
+            capture.remove(visitor.id());
+            visitor.admit(chance, capture);
+        }
+        5 => change_places(chance, capture, visitors),
+        _ => visitor.visit(chance, capture),
+    }
+}
+
+/// A number of streams; the table is often full, or too small for all.
+fn visitor_count(chance: &mut Chance) -> usize {
+    match chance.below(4) {
+        0 => chance.within(1, 4),
+        1 => chance.within(5, 63),
+        2 => 64,
+        _ => chance.within(65, 70),
+    }
+}
+
+/// Streams with all that a visit report can say of them.
+pub fn visits(chance: &mut Chance) -> Capture {
+    let mut capture = Capture::new(SMALL);
+    let count = visitor_count(chance);
+    let ids = stream_ids(chance, count);
+    let mut visitors: Vec<Visitor> = ids.iter().map(|&id| Visitor::new(chance, id)).collect();
+    for visitor in &visitors {
+        capture.admit(visitor.id());
+    }
+    for _ in 0..chance.within(10, 50 + 10 * count) {
+        if capture.full() {
+            break;
+        }
+        turn(chance, &mut capture, &mut visitors);
+    }
+    // Fills the holes. The others are admitted still, and must not start anew.
+    if chance.flip() {
+        for visitor in &visitors {
+            capture.admit(visitor.id());
+        }
+    }
+    if chance.one_in(4) {
+        turn(chance, &mut capture, &mut visitors);
+        capture.cut_last(chance);
+    }
+    capture
+}

@@ -1,0 +1,233 @@
+//! The visit report over a whole capture (request #104).
+
+use crate::outcome::{carry_out, Outcome};
+use crate::reading::{read_records, Failure};
+use crate::stream::{Counts, StreamRecord};
+use crate::table::StreamTable;
+use crate::visit::{KindCounts, Summary, Visit};
+use std::collections::BTreeMap;
+use std::io::{self, Read, Write};
+
+/// A report being made.
+struct Report {
+    table: StreamTable,
+    /// The visits of the admitted streams that had a frame, by id.
+    visits: BTreeMap<u64, Visit>,
+}
+
+impl Report {
+    /// Starts a report with no stream admitted.
+    fn new() -> Report {
+        Report { table: StreamTable::new(), visits: BTreeMap::new() }
+    }
+
+    /// Takes in one whole record.
+    fn record(&mut self, record: &[u8]) {
+        match carry_out(&mut self.table, record) {
+            Ok(Outcome::Frame(reception)) => {
+                let visit = self.visits.entry(reception.frame.stream_id).or_default();
+                visit.add(&reception.presentation);
+            }
+            // The stream has no visit when it is admitted again.
+            Ok(Outcome::Removed(id)) => {
+                self.visits.remove(&id);
+            }
+            Ok(Outcome::Admitted) | Err(_) => {}
+        }
+    }
+
+    /// Writes a line for each stream still admitted, in table order.
+    fn write_lines(&self, out: &mut impl Write) -> io::Result<()> {
+        for record in self.table.admitted() {
+            let visit = self.visits.get(&record.id).copied().unwrap_or_default();
+            write_line(out, record, &visit)?;
+        }
+        out.flush()
+    }
+}
+
+/// Writes a stream's line.
+fn write_line(out: &mut impl Write, record: &StreamRecord, visit: &Visit) -> io::Result<()> {
+    let Counts { frames, sequence_breaks, block_breaks, format_changes, mr_changes } =
+        record.counts;
+    let KindCounts { none, cut, outside, late, ahead } = visit.kinds;
+    write!(out, "{} {frames} ", record.id)?;
+    write!(out, "{sequence_breaks} {block_breaks} {format_changes} {mr_changes} ")?;
+    write!(out, "{none} {cut} {outside} {late} {ahead} ")?;
+    match visit.summary {
+        Some(Summary { smallest, largest, sum, count }) => {
+            write!(out, "{smallest} {largest} {sum} {sum}/{count} ")?;
+        }
+        None => write!(out, "none none none none ")?,
+    }
+    writeln!(out, "{}", visit.not_summed)
+}
+
+/// Reports one capture, as far as it goes where it is cut. After a read error
+/// nothing is written.
+pub fn report_capture(
+    input: &mut impl Read,
+    out: &mut impl Write,
+    buffer: &mut [u8],
+) -> Result<(), Failure> {
+    let mut report = Report::new();
+    read_records(input, buffer, |record| {
+        report.record(record);
+        Ok(())
+    })?;
+    report.write_lines(out).map_err(Failure::Write)
+}
+
+#[cfg(test)]
+mod tests {
+    use super::*;
+    use crate::capture::LONGEST_RECORD;
+    use crate::samples::{
+        admit_record, frame_record, record, remove_record, sound, stamped, with, Slow,
+    };
+
+    /// Reports what `input` gives: the lines, and the answer.
+    fn report(input: &mut impl Read) -> (String, Result<(), Failure>) {
+        let mut out = Vec::new();
+        let answer = report_capture(input, &mut out, &mut vec![0; LONGEST_RECORD]);
+        (String::from_utf8(out).unwrap(), answer)
+    }
+
+    /// The report of a capture of these records.
+    fn reported(records: &[Vec<u8>]) -> String {
+        let (lines, answer) = report(&mut &records.concat()[..]);
+        answer.unwrap();
+        lines
+    }
+
+    /// A frame that arrives far from either end of the times, with an offset.
+    fn offset_record(id: u64, offset: i32) -> Vec<u8> {
+        let arrival: u64 = 1 << 40;
+        frame_record(arrival, &stamped(sound(id, &[]), offset as u32))
+    }
+
+    /// A line for stream 1 with one frame, ahead by 2000.
+    const ONE_FRAME: &str = "1 1 0 0 0 0 0 0 0 0 1 2000 2000 2000 2000/1 0\n";
+
+    #[test]
+    fn example_of_document_01() {
+        let capture = [
+            admit_record(1),
+            frame_record(1000, &stamped(sound(1, &[]), 3000)),
+            frame_record(1000, &stamped(sound(2, &[]), 3000)),
+            remove_record(1),
+        ];
+        assert_eq!(reported(&capture), "");
+        assert_eq!(reported(&capture[..3]), ONE_FRAME);
+        assert_eq!(reported(&capture[..1]), "1 0 0 0 0 0 0 0 0 0 0 none none none none 0\n");
+        assert_eq!(reported(&[]), "");
+    }
+
+    #[test]
+    fn each_column() {
+        let first = sound(1, &[]);
+        let mr = with(with(first.clone(), 20, 1), 19, 0x89);
+        let fmt = with(with(mr.clone(), 20, 2), 46, 0x81);
+        let dbc = with(with(fmt.clone(), 20, 3), 45, 9);
+        let sph = with(dbc.clone(), 44, 4);
+        let capture = [
+            admit_record(1),
+            frame_record(1000, &stamped(first.clone(), 1005)),
+            frame_record(1000, &stamped(mr, 1005)),
+            frame_record(1000, &stamped(fmt, 1005)),
+            frame_record(1000, &stamped(dbc.clone(), 980)),
+            // The same sequence number again.
+            frame_record(1000, &stamped(dbc, 1005)),
+            // And SPH 1, with no block for the stamp.
+            frame_record(1000, &sph),
+            // As at first, so that all four differ; its time is below 0.
+            frame_record(1000, &stamped(first, -1_i32 as u32)),
+        ];
+        assert_eq!(reported(&capture), "1 7 3 2 3 2 1 0 1 1 4 -20 5 0 0/5 0\n");
+    }
+
+    #[test]
+    fn in_table_order() {
+        let none = "0 0 0 0 0 0 0 0 0 0 none none none none 0";
+        let one = "1 0 0 0 0 0 0 0 0 1 4 4 4 4/1 0";
+        let greatest = u64::MAX;
+        let capture = [
+            admit_record(7),
+            admit_record(greatest),
+            admit_record(3),
+            offset_record(3, 4),
+            remove_record(7),
+            // At the place that 7 had.
+            admit_record(0),
+            admit_record(7),
+            offset_record(7, 4),
+        ];
+        let lines = format!("0 {none}\n{greatest} {none}\n3 {one}\n7 {one}\n");
+        assert_eq!(reported(&capture), lines);
+    }
+
+    #[test]
+    fn a_full_table() {
+        let admissions: Vec<Vec<u8>> = (0..65).rev().map(admit_record).collect();
+        let lines = reported(&admissions);
+        let ids: Vec<&str> = lines.lines().map(|line| line.split(' ').next().unwrap()).collect();
+        let expected: Vec<String> = (1..65).rev().map(|id: u64| id.to_string()).collect();
+        assert_eq!(ids, expected);
+    }
+
+    #[test]
+    fn removal_drops_the_numbers() {
+        let mut capture = vec![
+            admit_record(1),
+            offset_record(1, i32::MIN),
+            offset_record(1, i32::MAX),
+            remove_record(1),
+            offset_record(1, 6),
+            admit_record(1),
+        ];
+        assert_eq!(reported(&capture), "1 0 0 0 0 0 0 0 0 0 0 none none none none 0\n");
+        capture.push(offset_record(1, 2000));
+        assert_eq!(reported(&capture), ONE_FRAME);
+    }
+
+    #[test]
+    fn refused_records_change_nothing() {
+        let capture = [
+            remove_record(1),
+            admit_record(1),
+            offset_record(1, 2000),
+            admit_record(1),
+            remove_record(2),
+            record(3, &[0; 7]),
+            record(4, &1_u64.to_be_bytes()),
+            frame_record(0, &sound(1, &[])[..41]),
+            frame_record(0, &with(sound(1, &[]), 18, 1)),
+            vec![0, 0],
+        ];
+        assert_eq!(reported(&capture), ONE_FRAME);
+    }
+
+    #[test]
+    fn cut_captures_and_pieces() {
+        let whole = [admit_record(1), offset_record(1, 2000)].concat();
+        let capture = [whole.clone(), remove_record(1)].concat();
+        for length in whole.len()..capture.len() {
+            for piece in [1, 7, length] {
+                let (lines, answer) = report(&mut Slow::new(&capture[..length], piece));
+                assert!(answer.is_ok());
+                assert_eq!(lines, ONE_FRAME);
+            }
+        }
+    }
+
+    #[test]
+    fn nothing_after_a_read_error() {
+        let capture = [admit_record(1), offset_record(1, 2000)].concat();
+        for length in [0, 5, 12, capture.len()] {
+            let mut slow = Slow { fails: true, ..Slow::new(&capture[..length], 5) };
+            let (lines, answer) = report(&mut slow);
+            assert!(matches!(answer, Err(Failure::Read(_))));
+            assert_eq!(lines, "");
+        }
+    }
+}
