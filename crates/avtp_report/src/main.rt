@@ -5,10 +5,11 @@ use libc::STDIN_FILENO;
 use options::Request;
 use options::Word;
 use turns::Stage;
-ghost use lib.ListN.{take};
+ghost use Prim.Native.Nat.{_≤_};
+ghost use lib.ListN.{length, take};
 ghost use Rattle.avtp_report.specs.Reporting.{Reports};
 
-// A report in a buffer: where the capture stands, and the place after the text.
+// A report in a buffer: where the capture stands, and the place after the text; 0 where not all could be read.
 struct Reported {
     stage: Stage,
     end: usize,
@@ -16,17 +17,22 @@ struct Reported {
 
 // The report of a capture of which so many bytes have been read. No line of a record is shown, and the table at the end has the report's.
 fn report_records(fd: i32, input: &mut [u8], have: usize, out: &mut [u8]) -> Reported
-    ensures { λ r. ⌜ Reports (take have (now (input .entry))) (now (out .exit)) r ⌝ }
+    ensures { λ r. ⌜ Reports (take have (now (input .entry))) (now (out .entry)) r (now (out .exit)) ⌝ }
 {
     let s = turns::list_records(fd, input, have, out, false);
     let stage = s.stage;
+    if !turns::is_read(stage) {
+        return Reported { stage, end: 0 };
+    }
     let table = s.table;
     let end = report_lines::put_table(out, table);
     Reported { stage, end }
 }
 
 // The end of a run. After a failure there is no report.
-fn finish(name: &[u8], out: &mut [u8], reported: Reported) {
+fn finish(name: &[u8], out: &mut [u8], reported: Reported)
+    requires { ⌜ reported .end ≤ length (now out) ⌝ }
+{
     let stage = reported.stage;
     let end = reported.end;
     match stage {
@@ -34,9 +40,7 @@ fn finish(name: &[u8], out: &mut [u8], reported: Reported) {
             messages::say(out, b"avtp_report", name, b"not read to its end");
         }
         Stage::AllRead => {
-            if end <= out.len() {
-                messages::write(b"avtp_report", &out[0..end]);
-            }
+            messages::write(b"avtp_report", &out[0..end]);
         }
         Stage::CannotRead => {
             messages::fail(out, b"avtp_report", name);
@@ -99,7 +103,7 @@ fn report_input() {
     report(STDIN_FILENO, b"standard input");
 }
 
-// No line could part two reports.
+// More than one name is an error, since no line could part two reports.
 fn run(request: Request) {
     let names = options::name_count(request);
     if names == 0 {

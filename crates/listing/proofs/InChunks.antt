@@ -17,7 +17,7 @@ use Rattle.lines.specs.Lines.{startLine, endLine, ending}
 use Rattle.lines.specs.Placing.{roomy}
 use Rattle.listing.specs.Listing.{Said, step, visit, linesAfter, numberAfter, listing}
 use Rattle.listing.specs.Chunks.{chunked}
-use Rattle.listing.specs.InChunks.{LentChunk, captureOf, Run, unlisted, listChunk, listChunks, ListedAs, ListedInChunks}
+use Rattle.listing.specs.InChunks.{LentChunk, captureOf, Run, unlisted, listChunk, listChunks, countAtEnd, ListedAs, ListedInChunks}
 use Rattle.listing.proofs.Lines.{lines-append, number-append, lines-more, number-more}
 
 module _ (shown : Bool) where
@@ -51,13 +51,16 @@ module _ (said : List Said) (left : List ℕ) (t : Table) where
   all b = walked.behind said (cond b ([], t) (step t left (damaged 41) .0 ∷ [], step t left (damaged 41) .1))
 
   end-by : (b : Bool) → eqb (length left) 0 ≡ b
-      → (linesAfter true 0 (all b .0) ++ endLine (numberAfter 0 (all b .0)) ≡ linesAfter true 0 said ++ ending (ltb 0 (length left)) (numberAfter 0 said)) × (all b .1 ≡ t)
+      → (linesAfter true 0 (all b .0) ++ endLine (numberAfter 0 (all b .0)) ≡ linesAfter true 0 said ++ ending (ltb 0 (length left)) (numberAfter 0 said))
+      × (numberAfter 0 (all b .0) ≡ countAtEnd (ltb 0 (length left)) (numberAfter 0 said))
+      × (all b .1 ≡ t)
   unfolding ending
-  end-by true e = let h = eqb-true (length left) 0 e in (rw (append-nil said, le-ltb 0 (length left) (omega arith)), refl)
+  end-by true e = let h = eqb-true (length left) 0 e in (rw (append-nil said, le-ltb 0 (length left) (omega arith)), rw (append-nil said, le-ltb 0 (length left) (omega arith)), refl)
   end-by false e =
       let h = eqb-false (length left) 0 e in
       let x = step t left (damaged 41) .0 in
-      (rw (lt-ltb 0 (length left) (omega arith), lines-more 0 said x true, number-more 0 said x) (append-assoc (linesAfter true 0 said) _ _), refl)
+      let some-left = lt-ltb 0 (length left) (omega arith) in
+      (rw (some-left, lines-more 0 said x true, number-more 0 said x) (append-assoc (linesAfter true 0 said) _ _), rw some-left (number-more 0 said x), refl)
 
 module _ (shown : Bool) (cs : List LentChunk) (room : ℕ) (fits : roomy room 0 ≡ true) where
   abbrev p : ChunkWalk Said Table
@@ -66,7 +69,7 @@ module _ (shown : Bool) (cs : List LentChunk) (room : ℕ) (fits : roomy room 0 
   -- the claim at a run
   abbrev At : Run → Type 0
   At r = length (chunked shown (r .rest) (r .table) (r .records) room .rest) ≡ length (r .rest)
-      → ListedAs shown (captureOf cs) (startLine ++ (r .text ++ ending (ltb 0 (length (r .rest))) (r .records))) (r .table)
+      → (let cut = ltb 0 (length (r .rest)) in ListedAs shown (captureOf cs) (startLine ++ (r .text ++ ending cut (r .records))) (countAtEnd cut (r .records)) (r .table))
 
   at-end : At (listedSo shown p)
   unfolding chunked visit listing linesAfter
@@ -79,7 +82,8 @@ module _ (shown : Bool) (cs : List LentChunk) (room : ℕ) (fits : roomy room 0 
         listed = λ on.
             ap (λ (x : List Said × Table). startLine ++ (linesAfter true 0 (x .0) ++ endLine (numberAfter 0 (x .0)))) w ∙ ap (λ (l : List ℕ). startLine ++ l) (e .0)
             ∙ ap (λ (b : Bool). startLine ++ (linesAfter b 0 (p .said) ++ ending (ltb 0 (length (p .rest))) (numberAfter 0 (p .said)))) (sym on);
-        table = ap (λ (x : List Said × Table). x .1) w ∙ e .1;
+        records = ap (λ (x : List Said × Table). numberAfter 0 (x .0)) w ∙ e .1;
+        table = ap (λ (x : List Said × Table). x .1) w ∙ e .2;
       }
 
   whole-capture : At (listChunks shown unlisted cs)

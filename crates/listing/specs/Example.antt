@@ -8,14 +8,18 @@ use Rattle.wire.specs.Numbers.{bytes}
 use Rattle.text.specs.Text.{ascii}
 use Rattle.listing.specs.Listing.{Said, visit, listing}
 
--- a sound frame of a stream, with an AVTP timestamp and no blocks (destination, source, VLAN tag, Ethertype; the AVTPDU's first four
--- bytes, stream id, timestamp, gateway info, stream_data_length, tag and channel, the CIP header)
-abbrev pub soundFrame : ℕ → ℕ → List ℕ
-soundFrame id timestamp =
+-- a sound frame of a stream without blocks: the byte of sv, mr and tv, the sequence number, id, timestamp and CIP header (before them stand
+-- destination, source, VLAN tag, Ethertype and the AVTPDU's first byte; between them gateway info, stream_data_length, tag and channel)
+abbrev pub frameWith : ℕ → ℕ → ℕ → ℕ → ℕ → List ℕ
+frameWith bits sequence id timestamp cip =
     bytes 6 0x91E0F0000001 ++ bytes 6 0x020000000001 ++ bytes 2 0x8100 ++ bytes 2 0x6002 ++ bytes 2 0x22F0
-    ++ bytes 1 0x00 ++ bytes 1 0x81 ++ bytes 1 0 ++ bytes 1 0
+    ++ bytes 1 0x00 ++ bytes 1 bits ++ bytes 1 sequence ++ bytes 1 0
     ++ bytes 8 id ++ bytes 4 timestamp ++ bytes 4 0 ++ bytes 2 8
-    ++ bytes 2 0x5FA0 ++ bytes 8 0x000600009002FFFF
+    ++ bytes 2 0x5FA0 ++ bytes 8 cip
+
+-- with an AVTP timestamp
+abbrev pub soundFrame : ℕ → ℕ → List ℕ
+soundFrame id timestamp = frameWith 0x81 0 id timestamp 0x000600009002FFFF
 
 -- a record: the length of what follows in it, the kind and the body
 abbrev pub recordBytes : ℕ → List ℕ → List ℕ

@@ -9,7 +9,7 @@ use lib.Dec.{T}
 use lib.ListN.{length, length-append}
 use Rattle.options.specs.declared.Word.{Word}
 use Rattle.options.specs.declared.Word.the-variants.{Name}
-use Rattle.options.specs.Options.{meaning, isName, firstOption, Meant, Requested}
+use Rattle.options.specs.Options.{isName, firstOption, Meant, Requested}
 
 -- what is left gives what the whole gives
 pub record Names (at : ℕ) : Type 0 where

@@ -8,19 +8,20 @@ use lib.Dec.{eqb}
 use lib.ListN.{length}
 use Rattle.presentation.specs.declared.Kind.{Kind}
 use Rattle.presentation.specs.declared.Kind.the-variants.{None, Cut, Outside, Late, Ahead}
-use Rattle.report.specs.Report.{Shown, howMany, kindNumber, isKind, countsOf, kindsOf}
+use Rattle.tally.specs.Tally.{kindNumber}
+use Rattle.report.specs.Report.{FrameLine, howMany, isKind, countsOf, kindsOf}
 use Rattle.report.specs.Totals.{KindsAddUp}
 
 -- one frame more, of any kind
 one-kind : (kind : Kind) (a b c d e n : ℕ) → a + b + c + d + e ≡ n
-    → (let k = kindNumber kind in cond (eqb 0 k) (suc a) a + cond (eqb 1 k) (suc b) b + cond (eqb 2 k) (suc c) c + cond (eqb 3 k) (suc d) d + cond (eqb 4 k) (suc e) e ≡ suc n)
+    → (let k = kindNumber kind in cond (eqb k 0) (suc a) a + cond (eqb k 1) (suc b) b + cond (eqb k 2) (suc c) c + cond (eqb k 3) (suc d) d + cond (eqb k 4) (suc e) e ≡ suc n)
 one-kind None a b c d e n h = omega arith
 one-kind Cut a b c d e n h = omega arith
 one-kind Outside a b c d e n h = omega arith
 one-kind Late a b c d e n h = omega arith
 one-kind Ahead a b c d e n h = omega arith
 
-each-one : (xs : List Shown) → howMany (isKind None) xs + howMany (isKind Cut) xs + howMany (isKind Outside) xs + howMany (isKind Late) xs + howMany (isKind Ahead) xs ≡ length xs
+each-one : (xs : List FrameLine) → howMany (isKind None) xs + howMany (isKind Cut) xs + howMany (isKind Outside) xs + howMany (isKind Late) xs + howMany (isKind Ahead) xs ≡ length xs
 unfolding howMany
 each-one [] = refl
 each-one (x ∷ xs) = one-kind (x .timing .kind) _ _ _ _ _ _ (each-one xs)

@@ -4,22 +4,22 @@ use mathlib.Core.Path.{_≡_, refl, sym, ap, _∙_}
 use mathlib.Core.Bool.{Bool, true, false, cond}
 use mathlib.Core.List.{List, [], _∷_, _++_}
 use native.Mathlib.Omega.{arith}
-use lib.Dec.{eqb, ltb}
+use lib.Dec.{ltb}
 use lib.ListN.{length, length-append}
 use borrow.Author.Tests.{ltb-true, ltb-false}
-use Rattle.presentation.specs.declared.Kind.{Kind}
 use Rattle.presentation.specs.declared.Kind.the-variants.{None, Cut, Outside, Late, Ahead}
 use Rattle.tally.specs.declared.Kinds.{Kinds}
 use Rattle.tally.specs.Tally.{raised, kindsAfter}
+use Rattle.tally.proofs.Numbered.{raisedIf, by-number}
 use Rattle.stream.specs.declared.Counts.{Counts}
 use Rattle.stream.specs.declared.Record.{Record}
 use Rattle.stream.specs.Records.{bump}
 use Rattle.stream.specs.Answers.{answerOf, after}
 use Rattle.stream.proofs.Laws.{after-frames, after-sequence-breaks, after-block-breaks, after-format-changes, after-mr-changes}
-use Rattle.report.specs.Report.{Shown, howMany, capped32, capped64, countsOf, kindNumber, isKind, kindsOf}
+use Rattle.report.specs.Report.{FrameLine, howMany, capped32, capped64, countsOf, isKind, kindsOf}
 use Rattle.report.proofs.Following.{shownOf}
 
-how-many-more : (p : Shown → Bool) (xs : List Shown) (x : Shown) → howMany p (xs ++ (x ∷ [])) ≡ howMany p xs + cond (p x) 1 0
+how-many-more : (p : FrameLine → Bool) (xs : List FrameLine) (x : FrameLine) → howMany p (xs ++ (x ∷ [])) ≡ howMany p xs + cond (p x) 1 0
 unfolding howMany
 how-many-more p [] x = omega arith
 how-many-more p (y ∷ xs) x = rw (how-many-more p xs x) (go (p y))
@@ -39,13 +39,13 @@ bump-capped true n = go (ltb (capped32 n) 4_294_967_295) refl
     go true e = let h = ltb-true (capped32 n) 4_294_967_295 e in omega arith
     go false e = let h = ltb-false (capped32 n) 4_294_967_295 e in omega arith
 
-flag-more : (p : Shown → Bool) (xs : List Shown) (x : Shown) (c : ℕ) → c ≡ capped32 (howMany p xs) → bump (p x) c ≡ capped32 (howMany p (xs ++ (x ∷ [])))
+flag-more : (p : FrameLine → Bool) (xs : List FrameLine) (x : FrameLine) (c : ℕ) → c ≡ capped32 (howMany p xs) → bump (p x) c ≡ capped32 (howMany p (xs ++ (x ∷ [])))
 flag-more p xs x c e = ap (bump (p x)) e ∙ bump-capped (p x) (howMany p xs) ∙ ap capped32 (sym (how-many-more p xs x))
 
-frames-more : (xs : List Shown) (x : Shown) (c : ℕ) → c ≡ capped32 (length xs) → bump true c ≡ capped32 (length (xs ++ (x ∷ [])))
+frames-more : (xs : List FrameLine) (x : FrameLine) (c : ℕ) → c ≡ capped32 (length xs) → bump true c ≡ capped32 (length (xs ++ (x ∷ [])))
 frames-more xs x c e = ap (bump true) e ∙ bump-capped true (length xs) ∙ ap capped32 (sym (length-append xs (x ∷ [])))
 
-pub counts-more : (r : Record) (xs : List Shown) (frame : List ℕ) (L : ℕ) → r .counts ≡ countsOf xs
+pub counts-more : (r : Record) (xs : List FrameLine) (frame : List ℕ) (L : ℕ) → r .counts ≡ countsOf xs
     → after r frame L .counts ≡ countsOf (xs ++ (shownOf (answerOf r frame L) ∷ []))
 unfolding countsOf
 counts-more r xs frame L e =
@@ -67,26 +67,14 @@ raised-capped n = go (ltb (capped64 n) 18_446_744_073_709_551_615) refl
     go true e = let h = ltb-true (capped64 n) 18_446_744_073_709_551_615 e in omega arith
     go false e = let h = ltb-false (capped64 n) 18_446_744_073_709_551_615 e in omega arith
 
-abbrev raisedIf : Bool → ℕ → ℕ
-raisedIf b n = cond b (raised n) n
-
-kind-more : (p : Shown → Bool) (xs : List Shown) (x : Shown) (c : ℕ) → c ≡ capped64 (howMany p xs) → raisedIf (p x) c ≡ capped64 (howMany p (xs ++ (x ∷ [])))
+kind-more : (p : FrameLine → Bool) (xs : List FrameLine) (x : FrameLine) (c : ℕ) → c ≡ capped64 (howMany p xs) → raisedIf (p x) c ≡ capped64 (howMany p (xs ++ (x ∷ [])))
 kind-more p xs x c e = ap (raisedIf (p x)) e ∙ go (p x) ∙ ap capped64 (sym (how-many-more p xs x))
   where
     go : (b : Bool) → raisedIf b (capped64 (howMany p xs)) ≡ capped64 (howMany p xs + cond b 1 0)
     go true = raised-capped (howMany p xs)
     go false = omega arith
 
-each-kind : (kind : Kind) (k : Kinds)
-    → (let n = kindNumber kind in kindsAfter kind k ≡ record { none = raisedIf (eqb 0 n) (k .none); cut = raisedIf (eqb 1 n) (k .cut); outside = raisedIf (eqb 2 n) (k .outside); late = raisedIf (eqb 3 n) (k .late); ahead = raisedIf (eqb 4 n) (k .ahead) })
-unfolding kindsAfter
-each-kind None k = refl
-each-kind Cut k = refl
-each-kind Outside k = refl
-each-kind Late k = refl
-each-kind Ahead k = refl
-
-pub kinds-more : (xs : List Shown) (x : Shown) (k : Kinds) → k ≡ kindsOf xs → kindsAfter (x .timing .kind) k ≡ kindsOf (xs ++ (x ∷ []))
+pub kinds-more : (xs : List FrameLine) (x : FrameLine) (k : Kinds) → k ≡ kindsOf xs → kindsAfter (x .timing .kind) k ≡ kindsOf (xs ++ (x ∷ []))
 unfolding kindsOf
 kinds-more xs x k e =
     let none = kind-more (isKind None) xs x _ (ap (λ (k : Kinds). k .none) e) in
@@ -94,4 +82,4 @@ kinds-more xs x k e =
     let outside = kind-more (isKind Outside) xs x _ (ap (λ (k : Kinds). k .outside) e) in
     let late = kind-more (isKind Late) xs x _ (ap (λ (k : Kinds). k .late) e) in
     let ahead = kind-more (isKind Ahead) xs x _ (ap (λ (k : Kinds). k .ahead) e) in
-    each-kind (x .timing .kind) k ∙ (λ i. record { none = none i; cut = cut i; outside = outside i; late = late i; ahead = ahead i })
+    by-number (x .timing .kind) k ∙ (λ i. record { none = none i; cut = cut i; outside = outside i; late = late i; ahead = ahead i })

@@ -10,9 +10,9 @@ use lib.Seq.{take-all, take-append-le, length-take-le}
 use borrow.Author.Tests.{lt-ltb, le-ltb}
 use Rattle.wrapping.proofs.Signed.{by-lt}
 use Rattle.tally.specs.declared.Sums.{Sums}
-use Rattle.tally.specs.Tally.{isTimed, aboveLowest, greater as further, raised, sumsAfter}
-use Rattle.report.specs.Report.{Shown, capped64, offsets, mostSummed, lesser, greater, fold}
-use Rattle.report.specs.Totals.{Summed}
+use Rattle.tally.specs.Tally.{isTimed, mostSummed, aboveLowest, greater as further, raised, sumsAfter}
+use Rattle.report.specs.Report.{FrameLine, capped64, offsets, lesser, greater, fold}
+use Rattle.report.specs.Totals.{SumsOver}
 use Rattle.report.proofs.Counting.{raised-capped}
 use Rattle.report.proofs.Distances.{above, below, belowHighest, InRange, near, is-above, is-below, greater-above, lesser-below, further-0, sum-of}
 
@@ -23,7 +23,7 @@ fold-more f d (c ∷ ds) e = fold-more f (f d c) ds e
 
 -- ---- the offsets
 
-offsets-more : (xs : List Shown) (x : Shown) → offsets (xs ++ (x ∷ [])) ≡ offsets xs ++ cond (isTimed (x .timing .kind)) (x .timing .offset ∷ []) []
+offsets-more : (xs : List FrameLine) (x : FrameLine) → offsets (xs ++ (x ∷ [])) ≡ offsets xs ++ cond (isTimed (x .timing .kind)) (x .timing .offset ∷ []) []
 unfolding offsets
 offsets-more [] x = refl
 offsets-more (y ∷ xs) x = rw (offsets-more xs x) (go (isTimed (y .timing .kind)) (offsets xs) (cond (isTimed (x .timing .kind)) (x .timing .offset ∷ []) []))
@@ -37,7 +37,7 @@ offsets-more (y ∷ xs) x = rw (offsets-more xs x) (go (isTimed (y .timing .kind
 -- what they stand for, and nothing where none is summed
 abbrev StandsFor : Sums → List ℤ → Type 0
 StandsFor s [] = (s .«smallest_below» ≡ 0) × (s .«largest_above» ≡ 0) × (s .«sum_above» ≡ 0)
-StandsFor s (d ∷ ds) = Summed s (d ∷ ds)
+StandsFor s (d ∷ ds) = SumsOver s (d ∷ ds)
 
 -- and with it what they need to go on: no sum wraps
 pub record SumsOf (most : ℕ) (s : Sums) (ds : List ℤ) : Type 0 where
@@ -46,7 +46,7 @@ pub record SumsOf (most : ℕ) (s : Sums) (ds : List ℤ) : Type 0 where
   pub stands : StandsFor s (take most ds)
   pub small : s .«sum_above» ≤ s .summed * 4_294_967_295
 
-pub stands-summed : (s : Sums) (ds : List ℤ) → StandsFor s ds → Summed s ds
+pub stands-summed : (s : Sums) (ds : List ℤ) → StandsFor s ds → SumsOver s ds
 stands-summed s [] w = tt
 stands-summed s (d ∷ ds) w = w
 
@@ -143,7 +143,7 @@ one-offset s ds was d r =
     (λ h. rw (lt-ltb (s .summed) 1_000_000 h) (summed-more mostSummed (omega arith) s ds was d r h))
     (λ h. rw (le-ltb (s .summed) 1_000_000 h) (unsummed-more mostSummed (omega arith) s ds was d r h))
 
-pub sums-more : (s : Sums) (xs : List Shown) (x : Shown) → InRange (x .timing .offset) → SumsOf mostSummed s (offsets xs)
+pub sums-more : (s : Sums) (xs : List FrameLine) (x : FrameLine) → InRange (x .timing .offset) → SumsOf mostSummed s (offsets xs)
     → SumsOf mostSummed (cond (isTimed (x .timing .kind)) (sumsAfter (aboveLowest (x .timing .offset)) s) s) (offsets (xs ++ (x ∷ [])))
 sums-more s xs x r was = subst (SumsOf mostSummed _) (sym (offsets-more xs x)) (go (isTimed (x .timing .kind)))
   where

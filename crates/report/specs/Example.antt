@@ -5,26 +5,60 @@ use mathlib.Core.List.{List, [], _++_, reverse}
 use lib.ListN.{take}
 use Rattle.wire.specs.Numbers.{bytes}
 use Rattle.text.specs.Text.{ascii}
-use Rattle.listing.specs.Example.{soundFrame, recordBytes, exampleCapture}
+use Rattle.listing.specs.Example.{frameWith, soundFrame, recordBytes, exampleCapture}
 use Rattle.report.specs.Report.{report}
 
--- a frame of a stream that arrives at L, with the stamp T
-abbrev frameOf : ℕ → ℕ → ℕ → List ℕ
-frameOf id L T = recordBytes 1 (reverse (bytes 8 L) ++ soundFrame id T)
+-- a frame of stream 12 that arrives at L, with these bits, sequence number, stamp T and CIP header
+abbrev frameAt : ℕ → ℕ → ℕ → ℕ → ℕ → List ℕ
+frameAt L bits sequence T cip = recordBytes 1 (reverse (bytes 8 L) ++ frameWith bits sequence 12 T cip)
 
--- streams 1 and 2 are admitted, and 1 is removed after a frame: 3 takes its place. Stream 2 has frames 16 nanoseconds late, 3 and 5 ahead, and
--- one outside; all have sequence number 0, so that all but the first break the sequence
+-- sv with tv, with mr and tv, and with mr
+abbrev stamped : ℕ
+stamped = 0x81
+
+abbrev restarted : ℕ
+restarted = 0x89
+
+abbrev unstamped : ℕ
+unstamped = 0x88
+
+-- CIP headers with DBC 0, with DBC 7, and with another DBS
+abbrev dbc0 : ℕ
+dbc0 = 0x000600009002FFFF
+
+abbrev dbc7 : ℕ
+dbc7 = 0x000600079002FFFF
+
+abbrev dbs7 : ℕ
+dbs7 = 0x000700009002FFFF
+
+-- streams 1 and 12 are admitted; 1 has a frame and is removed, 3 takes its place, and 1 is admitted again. Then stream 12 has three frames
+-- late, four ahead, one outside and two without a stamp; three of them break the sequence, two the block count, one changes the format, and
+-- five mr
 unfoldable pub visitCapture : List ℕ
 visitCapture =
     recordBytes 2 (bytes 8 1)
-    ++ recordBytes 2 (bytes 8 2)
-    ++ frameOf 1 1000 900
+    ++ recordBytes 2 (bytes 8 12)
+    ++ recordBytes 1 (reverse (bytes 8 1000) ++ soundFrame 1 900)
     ++ recordBytes 3 (bytes 8 1)
     ++ recordBytes 2 (bytes 8 3)
-    ++ frameOf 2 1000 984
-    ++ frameOf 2 1000 1003
-    ++ frameOf 2 1000 1005
-    ++ frameOf 2 10 4_294_967_290
+    ++ recordBytes 2 (bytes 8 1)
+    ++ frameAt 1000 stamped 0 984 dbc0
+    ++ frameAt 1000 restarted 1 990 dbc0
+    ++ frameAt 1000 stamped 3 996 dbc0
+    ++ frameAt 1000 restarted 3 1002 dbc0
+    ++ frameAt 1000 stamped 5 1003 dbc0
+    ++ frameAt 1000 restarted 6 1005 dbc7
+    ++ frameAt 1000 restarted 7 1006 dbc0
+    ++ frameAt 10 restarted 8 4_294_967_290 dbc0
+    ++ frameAt 1000 unstamped 9 1001 dbs7
+    ++ frameAt 1000 unstamped 10 1001 dbs7
+
+unfoldable pub visitReport : List ℕ
+visitReport =
+    ascii "3 0 0 0 0 0 0 0 0 0 0 none none none none 0\n"
+    ++ ascii "12 10 3 2 1 5 2 0 1 3 4 -16 6 -14 -14/7 0\n"
+    ++ ascii "1 0 0 0 0 0 0 0 0 0 0 none none none none 0\n"
 
 pub record WorkedReport : Type 0 where
   -- the stream is admitted
@@ -33,4 +67,7 @@ pub record WorkedReport : Type 0 where
   pub frame : report (take 136 exampleCapture) ≡ ascii "1 1 0 0 0 0 0 0 0 0 1 2000 2000 2000 2000/1 0\n"
   -- and is removed at the end
   pub removed : report exampleCapture ≡ []
-  pub visit : report visitCapture ≡ ascii "3 0 0 0 0 0 0 0 0 0 0 none none none none 0\n2 4 3 0 0 0 0 0 1 1 2 -16 5 -8 -8/3 0\n"
+  pub whole-visit : report visitCapture ≡ visitReport
+  -- an empty capture has no line, and one that is cut is reported on as far as it goes
+  pub empty : report [] ≡ []
+  pub cut : report (take 15 exampleCapture) ≡ report (take 12 exampleCapture)

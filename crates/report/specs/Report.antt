@@ -1,4 +1,4 @@
--- The visit report of a capture (request #104), made of the listing's own lines.
+-- The visit report of a capture (request #104), made of the listing's own lines, for the streams that the table holds at the end.
 use Prim.Native.Nat.{ℕ, suc, _-_, min}
 use mathlib.Core.Bool.{Bool, false, cond}
 use mathlib.Core.List.{List, [], _∷_, _++_}
@@ -11,7 +11,7 @@ use Rattle.presentation.specs.declared.Kind.{Kind}
 use Rattle.presentation.specs.declared.Kind.the-variants.{None, Cut, Outside, Late, Ahead}
 use Rattle.presentation.specs.declared.Timing.{Timing}
 use Rattle.tally.specs.declared.Kinds.{Kinds}
-use Rattle.tally.specs.Tally.{isTimed}
+use Rattle.tally.specs.Tally.{kindNumber, isTimed, mostSummed}
 use Rattle.stream.specs.declared.Flags.{Flags}
 use Rattle.stream.specs.declared.Counts.{Counts}
 use Rattle.table.specs.Table.{Table}
@@ -21,8 +21,8 @@ use Rattle.report_lines.specs.Columns.{summedText, noneText, streamLine}
 
 -- ---- A stream's accepted frames since its last admission, by the listing's lines
 
--- what the line of an accepted frame shows
-pub record Shown : Type 0 where
+-- what the line of an accepted frame is made from; of the timing it shows the kind and the offset
+pub record FrameLine : Type 0 where
   pub flags : Flags
   pub timing : Timing
 
@@ -32,19 +32,19 @@ isAbout id none = false
 isAbout id (some stream) = eqb stream id
 
 -- admission starts anew, removal drops what there was, and what is refused changes nothing
-abbrev pub shownBy : Line → List Shown → List Shown
-shownBy admitted shown = []
-shownBy removed shown = []
-shownBy (refused number) shown = shown
-shownBy (frame flags timing) shown = shown ++ (record { flags = flags; timing = timing } ∷ [])
+abbrev pub framesBy : Line → List FrameLine → List FrameLine
+framesBy admitted frames = []
+framesBy removed frames = []
+framesBy (refused number) frames = frames
+framesBy (frame flags timing) frames = frames ++ (record { flags = flags; timing = timing } ∷ [])
 
-unfoldable pub since : ℕ → List Shown → List Said → List Shown
-since id shown [] = shown
-since id shown (x ∷ xs) = since id (cond (isAbout id (x .stream)) (shownBy (x .line) shown) shown) xs
+unfoldable pub since : ℕ → List FrameLine → List Said → List FrameLine
+since id frames [] = frames
+since id frames (x ∷ xs) = since id (cond (isAbout id (x .stream)) (framesBy (x .line) frames) frames) xs
 
 -- ---- Counts
 
-unfoldable pub howMany : (Shown → Bool) → List Shown → ℕ
+unfoldable pub howMany : (FrameLine → Bool) → List FrameLine → ℕ
 howMany p [] = 0
 howMany p (x ∷ xs) = cond (p x) (suc (howMany p xs)) (howMany p xs)
 
@@ -56,7 +56,7 @@ capped32 n = min 4_294_967_295 n
 abbrev pub capped64 : ℕ → ℕ
 capped64 n = min 18_446_744_073_709_551_615 n
 
-unfoldable pub countsOf : List Shown → Counts
+unfoldable pub countsOf : List FrameLine → Counts
 countsOf xs =
     record {
       frames = capped32 (length xs);
@@ -68,17 +68,10 @@ countsOf xs =
 
 -- ---- Kinds
 
-abbrev pub kindNumber : Kind → ℕ
-kindNumber None = 0
-kindNumber Cut = 1
-kindNumber Outside = 2
-kindNumber Late = 3
-kindNumber Ahead = 4
+abbrev pub isKind : Kind → FrameLine → Bool
+isKind kind x = eqb (kindNumber (x .timing .kind)) (kindNumber kind)
 
-abbrev pub isKind : Kind → Shown → Bool
-isKind kind x = eqb (kindNumber kind) (kindNumber (x .timing .kind))
-
-unfoldable pub kindsOf : List Shown → Kinds
+unfoldable pub kindsOf : List FrameLine → Kinds
 kindsOf xs =
     record {
       none = capped64 (howMany (isKind None) xs);
@@ -91,13 +84,9 @@ kindsOf xs =
 -- ---- Smallest, largest, sum and mean
 
 -- the offsets of those ahead or late, in their order
-unfoldable pub offsets : List Shown → List ℤ
+unfoldable pub offsets : List FrameLine → List ℤ
 offsets [] = []
 offsets (x ∷ xs) = cond (isTimed (x .timing .kind)) (x .timing .offset ∷ offsets xs) (offsets xs)
-
--- the first 1,000,000 are summed
-abbrev pub mostSummed : ℕ
-mostSummed = 1_000_000
 
 abbrev pub lesser : ℤ → ℤ → ℤ
 lesser a b = cond (ltZ b a) b a
@@ -105,7 +94,7 @@ lesser a b = cond (ltZ b a) b a
 abbrev pub greater : ℤ → ℤ → ℤ
 greater a b = cond (ltZ a b) b a
 
--- d and the numbers after it, two at a time
+-- from the left: what has come of d and the numbers before, with the next
 unfoldable pub fold : (ℤ → ℤ → ℤ) → ℤ → List ℤ → ℤ
 fold f d [] = d
 fold f d (e ∷ es) = fold f (f d e) es
@@ -116,11 +105,11 @@ fourText (d ∷ ds) = summedText (fold lesser d ds) (fold greater d ds) (fold _+
 
 -- ---- The report
 
-unfoldable pub streamText : ℕ → List Shown → List ℕ
+unfoldable pub streamText : ℕ → List FrameLine → List ℕ
 streamText id xs = streamLine id (countsOf xs) (kindsOf xs) (fourText (take mostSummed (offsets xs))) (capped64 (length (offsets xs) - mostSummed))
 
 -- a line for each stream that is admitted at the end, in table order
-unfoldable pub reportOf : Table → (ℕ → List Shown) → List ℕ
+unfoldable pub reportOf : Table → (ℕ → List FrameLine) → List ℕ
 reportOf [] frames = []
 reportOf (r ∷ t) frames = cond (r .«in_use») (streamText (r .id) (frames (r .id))) [] ++ reportOf t frames
 

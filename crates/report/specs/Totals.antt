@@ -7,23 +7,23 @@ use mathlib.Core.Option.{some}
 use lib.IntN.{ℤ, _+ℤ_}
 use lib.ListN.{length, take, getElem?}
 use Rattle.tally.specs.declared.Sums.{Sums}
-use Rattle.tally.specs.Tally.{smallest, largest, sum}
+use Rattle.tally.specs.Tally.{mostSummed, smallest, largest, sum}
 use Rattle.stream.specs.declared.Record.{Record}
 use Rattle.listing.specs.Listing.{visit}
 use Rattle.report_lines.specs.Columns.{tableText}
-use Rattle.report.specs.Report.{Shown, since, countsOf, kindsOf, capped64, offsets, mostSummed, lesser, greater, fold, report}
+use Rattle.report.specs.Report.{FrameLine, since, countsOf, kindsOf, capped64, offsets, lesser, greater, fold, report}
 
--- smallest, largest and sum of the offsets that are summed
-abbrev pub Summed : Sums → List ℤ → Type 0
-Summed s [] = Unit {0}
-Summed s (d ∷ ds) = (smallest s ≡ fold lesser d ds) × (largest s ≡ fold greater d ds) × (sum s ≡ fold _+ℤ_ d ds)
+-- smallest, largest and sum are those of these offsets
+abbrev pub SumsOver : Sums → List ℤ → Type 0
+SumsOver s [] = Unit {0}
+SumsOver s (d ∷ ds) = (smallest s ≡ fold lesser d ds) × (largest s ≡ fold greater d ds) × (sum s ≡ fold _+ℤ_ d ds)
 
-pub record Totals (r : Record) (xs : List Shown) : Type 0 where
+pub record Totals (r : Record) (xs : List FrameLine) : Type 0 where
   pub counts : r .counts ≡ countsOf xs
   pub kinds : r .tally .kinds ≡ kindsOf xs
   pub summed : r .tally .sums .summed ≡ length (take mostSummed (offsets xs))
   pub unsummed : r .tally .sums .unsummed ≡ capped64 (length (offsets xs) - mostSummed)
-  pub sums : Summed (r .tally .sums) (take mostSummed (offsets xs))
+  pub sums : SumsOver (r .tally .sums) (take mostSummed (offsets xs))
 
 abbrev pub TotalsOfLines : Type 0
 TotalsOfLines = (capture : List ℕ) (i : ℕ) (r : Record) → getElem? (visit capture .1) i ≡ some r → r .«in_use» ≡ true
@@ -38,7 +38,7 @@ OneLineEach = (capture : List ℕ) (i j : ℕ) (r s : Record) → getElem? (visi
 abbrev pub ReportOfTable : Type 0
 ReportOfTable = (capture : List ℕ) → report capture ≡ tableText (visit capture .1)
 
--- the kinds add up to the accepted frames while that count is below its cap
+-- in every line the kinds add up to the accepted frames, while that count is below its cap
 abbrev pub KindsAddUp : Type 0
-KindsAddUp = (xs : List Shown) → countsOf xs .frames < 4_294_967_295
+KindsAddUp = (xs : List FrameLine) → countsOf xs .frames < 4_294_967_295
     → (let k = kindsOf xs in k .none + k .cut + k .outside + k .late + k .ahead ≡ countsOf xs .frames)

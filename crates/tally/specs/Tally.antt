@@ -27,6 +27,14 @@ noTally = record { kinds = noKinds; sums = noSums }
 unfoldable pub raised : ℕ → ℕ
 raised n = cond (ltb n 18_446_744_073_709_551_615) (n + 1) n
 
+-- the kinds by number, to tell them apart
+abbrev pub kindNumber : Kind → ℕ
+kindNumber None = 0
+kindNumber Cut = 1
+kindNumber Outside = 2
+kindNumber Late = 3
+kindNumber Ahead = 4
+
 unfoldable pub kindsAfter : Kind → Kinds → Kinds
 kindsAfter None k = record { none = raised (k .none); cut = k .cut; outside = k .outside; late = k .late; ahead = k .ahead }
 kindsAfter Cut k = record { none = k .none; cut = raised (k .cut); outside = k .outside; late = k .late; ahead = k .ahead }
@@ -51,10 +59,14 @@ aboveLowest (negsuc n) = 2_147_483_647 - n
 abbrev pub greater : ℕ → ℕ → ℕ
 greater a b = cond (ltb a b) b a
 
--- the first 1,000,000 are summed, and those after them counted
+-- so many are summed
+abbrev pub mostSummed : ℕ
+mostSummed = 1_000_000
+
+-- those after them are counted; only a record that was lent with another sum reaches 2^64
 unfoldable pub sumsAfter : ℕ → Sums → Sums
 sumsAfter above s =
-    cond (ltb (s .summed) 1_000_000)
+    cond (ltb (s .summed) mostSummed)
     (record {
       «sum_above» = (s .«sum_above» + above) % 2 ^ 64;
       unsummed = s .unsummed;

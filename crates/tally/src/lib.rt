@@ -3,7 +3,8 @@
 use presentation::Kind;
 use presentation::Timing;
 ghost use mathlib.Core.Path.{_≡_};
-ghost use Rattle.tally.specs.Tally.{noTally, raised, kindsAfter, isTimed, aboveLowest, greater, sumsAfter, counted};
+ghost use mathlib.Core.Bool.{cond};
+ghost use Rattle.tally.specs.Tally.{noTally, raised, kindNumber, kindsAfter, isTimed, aboveLowest, greater, sumsAfter, counted};
 
 // How many frames had each kind. A count stays at its largest value once there.
 pub struct Kinds {
@@ -17,7 +18,7 @@ pub struct Kinds {
 // Offsets lie between -2,147,483,648 and 2,147,483,647. Each is kept by how far it is from one of these ends, so that no number is below
 // zero and all of them start at zero.
 pub struct Sums {
-    // how far each offset that is summed is above the lowest end, in all
+    // the sum of how far each summed offset is above the lowest end
     pub sum_above: u64,
     // late or ahead, and past the first 1,000,000; this count too stays at its largest value
     pub unsummed: u64,
@@ -35,6 +36,17 @@ pub struct Tally {
 
 // So many frames late or ahead are summed.
 const MOST_SUMMED: u32 = 1_000_000;
+
+// The kinds by number.
+const NONE: u8 = 0;
+
+const CUT: u8 = 1;
+
+const OUTSIDE: u8 = 2;
+
+const LATE: u8 = 3;
+
+const AHEAD: u8 = 4;
 
 // Nothing counted.
 pub fn none_yet() -> Tally
@@ -58,37 +70,47 @@ pub fn none_yet() -> Tally
     }
 }
 
-// A count, one higher where there is room.
-fn raise(count: u64) -> u64
-    ensures { λ r. ⌜ r ≡ raised count ⌝ }
+// A count, one higher where it is wanted and there is room.
+fn raise(wanted: bool, count: u64) -> u64
+    ensures { λ r. ⌜ r ≡ cond wanted (raised count) count ⌝ }
 {
-    if count < u64::MAX {
-        return count + 1;
+    if wanted {
+        if count < u64::MAX {
+            return count + 1;
+        }
     }
     count
 }
 
+fn number_of(kind: Kind) -> u8
+    ensures { λ r. ⌜ r ≡ kindNumber kind ⌝ }
+{
+    match kind {
+        Kind::None => NONE,
+        Kind::Cut => CUT,
+        Kind::Outside => OUTSIDE,
+        Kind::Late => LATE,
+        Kind::Ahead => AHEAD,
+    }
+}
+
+// Most frames are late or ahead. The others are counted together, which the compiler copies in fewer steps than each by itself.
 fn count_kind(kinds: Kinds, kind: Kind) -> Kinds
     ensures { λ r. ⌜ r ≡ kindsAfter kind kinds ⌝ }
 {
+    let number = number_of(kind);
     let mut after = kinds;
-    match kind {
-        Kind::None => {
-            after.none = raise(kinds.none);
-        }
-        Kind::Cut => {
-            after.cut = raise(kinds.cut);
-        }
-        Kind::Outside => {
-            after.outside = raise(kinds.outside);
-        }
-        Kind::Late => {
-            after.late = raise(kinds.late);
-        }
-        Kind::Ahead => {
-            after.ahead = raise(kinds.ahead);
-        }
+    if number == LATE {
+        after.late = raise(true, kinds.late);
+        return after;
     }
+    if number == AHEAD {
+        after.ahead = raise(true, kinds.ahead);
+        return after;
+    }
+    after.none = raise(number == NONE, kinds.none);
+    after.cut = raise(number == CUT, kinds.cut);
+    after.outside = raise(number == OUTSIDE, kinds.outside);
     after
 }
 
@@ -138,7 +160,7 @@ fn add(sums: Sums, above: u32) -> Sums
         after.smallest_below = greater(sums.smallest_below, u32::MAX - above);
         return after;
     }
-    after.unsummed = raise(sums.unsummed);
+    after.unsummed = raise(true, sums.unsummed);
     after
 }
 

@@ -11,13 +11,15 @@ use Rattle.table.specs.Table.{Table}
 use Rattle.input.specs.declared.Filled.{Filled}
 use Rattle.input.specs.declared.Source.{Source}
 use Rattle.input.specs.declared.Source.the-variants.{Open, Ended, Failed}
-use Rattle.input.specs.Input.{isOpen, between, ReadBehind}
+use Rattle.input.specs.Input.{isOpen, hasEnded, between, ReadBehind}
 use Rattle.listing.specs.declared.chunk.Progress.{Progress}
+use Rattle.listing.specs.Listing.{linesAfter}
 use Rattle.listing.specs.Chunks.{chunked, ChunkListed}
 use Rattle.listing.proofs.InChunks.{in-chunks}
+use Rattle.listing.proofs.Lines.{nothing-shown}
 use Rattle.turns.specs.declared.Stage.{Stage}
 use Rattle.turns.specs.declared.State.{State}
-use Rattle.turns.specs.Turns.{stageBy, isRead, InPlace, Turned}
+use Rattle.turns.specs.Turns.{stageBy, isRead, isUnwritten, InPlace, Turned}
 
 drop-take : (m n : ℕ) (l : List ℕ) → drop m (take n l) ≡ take (n - m) (drop m l)
 drop-take zero n l = let e : n ≡ n - 0 = omega arith in ap (λ (k : ℕ). take k l) e
@@ -44,11 +46,22 @@ grown {left} {r = r} p = go (isOpen (r .source)) refl
     go true e = omega (arith, p .more e)
     go false e = omega (arith, p .shut e)
 
+-- reading fails no line
+read-only : (source : Source) → isUnwritten (stageBy source) ≡ false
+read-only Open = refl
+read-only Ended = refl
+read-only Failed = refl
+
 -- where all has been read nothing more comes
 shut-at-end : (source : Source) → isRead (stageBy source) ≡ true → isOpen source ≡ false
 shut-at-end Open e = sym e
 shut-at-end Ended e = refl
 shut-at-end Failed e = refl
+
+ended-at-end : (source : Source) → isRead (stageBy source) ≡ true → hasEnded source ≡ true
+ended-at-end Open e = e
+ended-at-end Ended e = refl
+ended-at-end Failed e = e
 
 pub many : (input : List ℕ) (s : State) → InPlace input s → length (between (s .from) (s .have) input) ≡ s .have - s .from
 many input s h = length-take-le (s .have - s .from) (drop (s .from) input) (rw (length-drop (s .from) input) (omega (arith, h)))
@@ -65,13 +78,19 @@ module _ (shown : Bool) (input d : List ℕ) (s : State) where
     left : drop (p .at) chunk ≡ rest
     left = ap (λ (n : ℕ). drop n chunk) (l .at) ∙ left-over shown chunk (s .table) (s .records) (length d)
 
+    -- where no line is shown none is put
+    pub none-put : shown ≡ false → p .put ≡ 0
+    none-put off = l .put ∙ ap (λ (b : Bool). length (linesAfter b (s .records) (chunked shown chunk (s .table) (s .records) (length d) .said))) off ∙ ap length (nothing-shown _ _)
+
     -- nothing was read
-    pub went-on : (stage : Stage) → isRead stage ≡ false → Turned shown input d s (record { table = t′; records = p .records; from = s .from + p .at; have = s .have; stage = stage }) input d′
-    went-on stage going =
+    pub went-on : (stage : Stage) → isRead stage ≡ false → (shown ≡ false → isUnwritten stage ≡ false)
+        → Turned shown input d s (record { table = t′; records = p .records; from = s .from + p .at; have = s .have; stage = stage }) input d′
+    went-on stage going written =
         record {
           table = l .table;
           records = l .records;
           lines = l .out;
+          written = written;
           left = ap (take (length rest)) (sym (behind-used input (s .from) (s .have) (p .at)) ∙ left) ∙ take-length rest;
           unread = λ _. sym (behind-used input (s .from) (s .have) (p .at)) ∙ left;
           size = refl;
@@ -89,6 +108,7 @@ module _ (shown : Bool) (input d : List ℕ) (s : State) where
           table = l .table;
           records = l .records;
           lines = l .out;
+          written = λ _. ap isUnwritten by ∙ read-only (f .source);
           left = ap (λ (x : List ℕ). take (length x) (between 0 (f .end) input′)) (sym same) ∙ front ∙ same;
           unread = λ less. absurd (omega (arith, less, ap length same, many input s h));
           size = r .size;
@@ -97,5 +117,6 @@ module _ (shown : Bool) (input d : List ℕ) (s : State) where
               let none-came : f .end ≡ length chunk = r .shut (shut-at-end (f .source) (sym (ap isRead by) ∙ e)) in
               let all : between 0 (f .end) input′ ≡ take (length chunk) (between 0 (f .end) input′) =
               sym (take-all (length chunk) (between 0 (f .end) input′) (omega (arith, none-came, length-take (f .end - 0) input′))) in
-              (ap length (sym same) ∙ many input s h, all ∙ front ∙ same);
+              let room = r .ended (ended-at-end (f .source) (sym (ap isRead by) ∙ e)) in
+              (ap length (sym same) ∙ many input s h, all ∙ front ∙ same, rw (sym same) room);
         }

@@ -10,12 +10,13 @@ use Rattle.capture.specs.Walk.{ChunkWalk}
 use Rattle.stream.specs.Records.{unused}
 use Rattle.table.specs.Table.{Table}
 use Rattle.lines.specs.Lines.{startLine, ending}
+use Rattle.lines.specs.Placing.{roomy}
 use Rattle.input.specs.declared.Source.{Source}
 use Rattle.input.specs.declared.Source.the-variants.{Open, Ended, Failed}
 use Rattle.input.specs.Input.{between}
 use Rattle.listing.specs.Listing.{Said, linesAfter, numberAfter}
 use Rattle.listing.specs.Chunks.{chunked}
-use Rattle.listing.specs.InChunks.{LentChunk, captureOf, unlisted, listChunks, ListedAs}
+use Rattle.listing.specs.InChunks.{LentChunk, captureOf, unlisted, listChunks, countAtEnd, ListedAs}
 use Rattle.turns.specs.declared.Stage.{Stage}
 use Rattle.turns.specs.declared.Stage.the-variants.{Going, AllRead, CannotRead, CannotWrite}
 use Rattle.turns.specs.declared.State.{State}
@@ -42,6 +43,13 @@ isRead AllRead = true
 isRead CannotRead = false
 isRead CannotWrite = false
 
+-- could lines not be written?
+abbrev pub isUnwritten : Stage → Bool
+isUnwritten Going = false
+isUnwritten AllRead = false
+isUnwritten CannotRead = false
+isUnwritten CannotWrite = true
+
 -- at the start, when so many bytes have been read
 abbrev pub started : ℕ → Stage → State
 started have stage = record { table = replicate 64 unused; records = 0; from = 0; have = have; stage = stage }
@@ -63,15 +71,17 @@ pub record Turned (shown : Bool) (input d : List ℕ) (s r : State) (input′ d�
   pub records : r .records ≡ numberAfter (s .records) (listed shown input s (length d) .said)
   -- the lines that are written
   pub lines : d′ ≡ sets d 0 (linesAfter shown (s .records) (listed shown input s (length d) .said))
+  -- where no line is shown, none can fail to be written
+  pub written : shown ≡ false → isUnwritten (r .stage) ≡ false
   -- what is left stands in front of what may have been read
   pub left : (let rest = listed shown input s (length d) .rest in take (length rest) (between (r .from) (r .have) input′) ≡ rest)
   -- more is read only where there was no whole record
   pub unread : (let rest = listed shown input s (length d) .rest in length rest < s .have - s .from → between (r .from) (r .have) input′ ≡ rest)
   pub size : length input′ ≡ length input
   pub places : InPlace input′ r
-  -- all has been read once there was no whole record left, and nothing more came
+  -- all has been read once there was no whole record left, and nothing more came though the input had room for it
   pub ended : isRead (r .stage) ≡ true
-      → (let rest = listed shown input s (length d) .rest in (length rest ≡ s .have - s .from) × (between (r .from) (r .have) input′ ≡ rest))
+      → (let rest = listed shown input s (length d) .rest in (length rest ≡ s .have - s .from) × (between (r .from) (r .have) input′ ≡ rest) × (length rest < length input))
 
 -- ---- All of them
 
@@ -86,11 +96,17 @@ pub record Listing (shown : Bool) (first input : List ℕ) (s : State) : Type 0 
   -- the first bytes, and then what came behind them
   pub behind : List ℕ
   pub begun : captureOf chunks ++ later ≡ first ++ behind
-  -- once all has been read, nothing waits, and the lines of the chunks, where they are shown, are the
-  -- capture's listing, between its first line and the ending; the table is the one that the capture leaves
+  -- once all has been read, nothing waits, and a full input is not taken for the end. The lines of the chunks, where they are shown, are
+  -- the capture's listing, between its first line and the ending; the count and the table are those of the capture
   pub all : isRead (s .stage) ≡ true → later ≡ []
+  pub not-full : isRead (s .stage) ≡ true → s .have - s .from < length input
   pub whole : isRead (s .stage) ≡ true
-      → ListedAs shown (captureOf chunks) (startLine ++ (listChunks shown unlisted chunks .text ++ ending (ltb 0 (s .have - s .from)) (s .records))) (s .table)
+      → (let cut = ltb 0 (s .have - s .from) in ListedAs shown (captureOf chunks) (startLine ++ (listChunks shown unlisted chunks .text ++ ending cut (s .records))) (countAtEnd cut (s .records)) (s .table))
+
+-- where no line is shown, the output d is as it was, and no line fails to be written
+pub record Unshown (shown : Bool) (d : List ℕ) (s : State) (d′ : List ℕ) : Type 0 where
+  pub out : shown ≡ false → d′ ≡ d
+  pub written : shown ≡ false → isUnwritten (s .stage) ≡ false
 
 -- nothing was read and nothing listed, since the output d has no room for a line: only the first bytes, which had been read before, are
 -- there
@@ -98,3 +114,14 @@ pub record NothingListed (first input d : List ℕ) (s : State) (input′ d′ :
   pub state : s ≡ started (length first) CannotWrite
   pub unread : input′ ≡ input
   pub unwritten : d′ ≡ d
+
+-- a capture of which the first bytes had been read before, with the input and the output d that were lent: s is the state that is answered,
+-- and input′ and d′ are the two then. Where lines are shown, what the output holds is free
+pub record RecordsListed (shown : Bool) (first input d : List ℕ) (s : State) (input′ d′ : List ℕ) : Type 0 where
+  pub listing : Listing shown first input′ s
+  pub places : InPlace input′ s
+  pub input-size : length input′ ≡ length input
+  pub out-size : length d′ ≡ length d
+  -- the output has room for a line, or it has not
+  pub room : roomy (length d) 0 ≡ true → Unshown shown d s d′
+  pub no-room : roomy (length d) 0 ≡ false → NothingListed first input d s input′ d′

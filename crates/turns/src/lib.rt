@@ -3,11 +3,11 @@ use input::Source;
 use libc::STDOUT_FILENO;
 use stream::Record;
 ghost use mathlib.Core.Path.{_≡_};
-ghost use mathlib.Core.Bool.{false};
+ghost use mathlib.Core.Bool.{true, false};
 ghost use Prim.Native.Nat.{_≤_};
 ghost use lib.ListN.{length, take};
-ghost use Rattle.lines.specs.Placing.{lineRoom, roomy};
-ghost use Rattle.turns.specs.Turns.{stageBy, isGoing, started, InPlace, Turned, Listing, NothingListed};
+ghost use Rattle.lines.specs.Placing.{lineRoom};
+ghost use Rattle.turns.specs.Turns.{stageBy, isGoing, isRead, started, InPlace, Turned, RecordsListed};
 
 // Where a listing stands.
 pub enum Stage {
@@ -38,6 +38,18 @@ fn is_going(stage: Stage) -> bool
     }
 }
 
+// Has all been read?
+pub fn is_read(stage: Stage) -> bool
+    ensures { λ r. ⌜ r ≡ isRead stage ⌝ }
+{
+    match stage {
+        Stage::Going => false,
+        Stage::AllRead => true,
+        Stage::CannotRead => false,
+        Stage::CannotWrite => false,
+    }
+}
+
 // There is more to list, or all has been read, or it cannot be.
 fn stage_of(source: Source) -> Stage
     ensures { λ r. ⌜ r ≡ stageBy source ⌝ }
@@ -47,6 +59,17 @@ fn stage_of(source: Source) -> Stage
         Source::Ended => Stage::AllRead,
         Source::Failed => Stage::CannotRead,
     }
+}
+
+// Lines go out, where there are any.
+fn write_lines(out: &[u8], end: usize) -> bool
+    requires { ⌜ end ≤ length (now out) ⌝ }
+    ensures { λ r. ⌜ (end ≡ 0 → r ≡ true) ⌝ }
+{
+    if end == 0 {
+        return true;
+    }
+    io::write_all(STDOUT_FILENO, &out[0..end])
 }
 
 // Lists the whole records at the front of what has been read, and writes their lines. Where there is none, reads more.
@@ -64,7 +87,7 @@ fn turn(fd: i32, input: &mut [u8], out: &mut [u8], s: State, shown: bool) -> Sta
     let records = progress.records;
     let used = progress.at;
     let next = from + used;
-    if !io::write_all(STDOUT_FILENO, &out[0..put]) {
+    if !write_lines(out, put) {
         return State {
             table,
             records,
@@ -110,7 +133,7 @@ fn start(have: usize, stage: Stage) -> State
 // up.
 fn all_turns(fd: i32, input: &mut [u8], have: usize, out: &mut [u8], shown: bool) -> State
     requires { ⌜ (have ≤ length (now input)) × (lineRoom ≤ length (now out)) ⌝ }
-    ensures { λ r. ⌜ (r .from ≤ r .have) × Listing shown (take have (now (input .entry))) (now (input .exit)) r ⌝ }
+    ensures { λ r. ⌜ RecordsListed shown (take have (now (input .entry))) (now (input .entry)) (now (out .entry)) r (now (input .exit)) (now (out .exit)) ⌝ }
 {
     let mut s = start(have, Stage::Going);
     let mut told = progress::start();
@@ -133,7 +156,7 @@ fn all_turns(fd: i32, input: &mut [u8], have: usize, out: &mut [u8], shown: bool
 // Goes through the records of a capture of which so many bytes have been read, as far as the buffer has them, and writes their lines to
 // standard output, where they are shown. Where the output has no room for a line, nothing is read and nothing is listed.
 pub fn list_records(fd: i32, input: &mut [u8], have: usize, out: &mut [u8], shown: bool) -> State
-    ensures { λ r. ⌜ (r .from ≤ r .have) × Listing shown (take have (now (input .entry))) (now (input .exit)) r × (roomy (length (now (out .entry))) 0 ≡ false → NothingListed (take have (now (input .entry))) (now (input .entry)) (now (out .entry)) r (now (input .exit)) (now (out .exit))) ⌝ }
+    ensures { λ r. ⌜ RecordsListed shown (take have (now (input .entry))) (now (input .entry)) (now (out .entry)) r (now (input .exit)) (now (out .exit)) ⌝ }
 {
     let end = input::least(have, input.len());
     if !lines::roomy(out.len(), 0) {

@@ -1,7 +1,6 @@
 use Prim.Native.Nat.{_-_, _≤_}
 use mathlib.Core.Path.{sym, _∙_}
 use native.Mathlib.Omega.{arith}
-use borrow.Author.Needs.{needs}
 use borrow.Author.Tests.{not-true, not-false}
 use Rattle.options.proofs.Arguments.{Names, no-names, all-names, one-more, an-option}
 use Rattle.options.proofs.read_request.Statement.{statement}

@@ -1,44 +1,41 @@
+use mathlib.Core.Path.{sym, ap, _∙_}
+use Prim.Native.Nat.{ℕ}
 use borrow.Author.Needs.{needs}
-use Rattle.tally.specs.Tally.{kindsAfter}
+use Rattle.tally.proofs.Numbered.{raisedAt, by-number, untimed-by-number}
 use Rattle.tally.proofs.count_kind.Statement.{statement}
 use Rattle.tally.proofs.count_kind.Tie as tie
 
 returns : tie.Need-returns
-unfolding kindsAfter
-returns c = rw (c .before .enum-told .given .1, c .raise .ensures)
+returns c =
+    let numbered = c .before .before in
+    let a = numbered .before .args in
+    rw (c .raise .ensures) (sym (by-number (a .kind) (a .kinds) ∙ ap (λ (n : ℕ). raisedAt n (a .kinds)) (sym (numbered .number-of .ensures) ∙ c .before .if1 .taken)))
 
 returns-2 : tie.Need-returns-2
-unfolding kindsAfter
-returns-2 c = rw (c .before .enum-told2 .given .1, c .raise2 .ensures)
+returns-2 c =
+    let numbered = c .before .before .before in
+    let a = numbered .before .args in
+    rw (c .raise2 .ensures) (sym (by-number (a .kind) (a .kinds) ∙ ap (λ (n : ℕ). raisedAt n (a .kinds)) (sym (numbered .number-of .ensures) ∙ c .before .if2 .taken)))
 
 returns-3 : tie.Need-returns-3
-unfolding kindsAfter
-returns-3 c = rw (c .before .enum-told3 .given .1, c .raise3 .ensures)
-
-returns-4 : tie.Need-returns-4
-unfolding kindsAfter
-returns-4 c = rw (c .before .enum-told4 .given .1, c .raise4 .ensures)
-
-returns-5 : tie.Need-returns-5
-unfolding kindsAfter
-returns-5 c = rw (c .before .enum-told5 .given .1, c .raise5 .ensures)
+returns-3 c =
+    let untimed = c .before .before .before in
+    let numbered = untimed .before .before in
+    let a = numbered .before .args in
+    let n = numbered .number-of .result in
+    rw (c .raise5 .ensures, c .before .raise4 .ensures, c .before .before .raise3 .ensures)
+    (sym (by-number (a .kind) (a .kinds) ∙ ap (λ (n : ℕ). raisedAt n (a .kinds)) (sym (numbered .number-of .ensures)) ∙ untimed-by-number n (a .kinds) (untimed .before .if1 .left) (untimed .if2 .left)))
 
 pub count-kind-spec : {M : Type 1} → statement M
 count-kind-spec =
     tie.close
     (tie.spec
-    (λ c. search needs)
     (λ c κs. search needs)
-    (λ c. search needs)
-    (λ c κs. search needs)
-    (λ c. search needs)
-    (λ c κs. search needs)
-    (λ c. search needs)
-    (λ c κs. search needs)
-    (λ c. search needs)
     (λ c κs. search needs)
     returns
+    (λ c κs. search needs)
     returns-2
-    returns-3
-    returns-4
-    returns-5)
+    (λ c κs. search needs)
+    (λ c κs. search needs)
+    (λ c κs. search needs)
+    returns-3)

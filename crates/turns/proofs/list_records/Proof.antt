@@ -1,8 +1,7 @@
-use mathlib.Core.Path.{refl, sym, _∙_, subst}
+use mathlib.Core.Path.{sym, _∙_}
 use borrow.Author.Needs.{needs}
-use borrow.Author.Tests.{leb-true, not-false}
+use borrow.Author.Tests.{leb-true, not-true, not-false}
 use denote.Ref.{now}
-use lib.Dec.{T}
 use lib.ListN.{length}
 use Rattle.lines.specs.Placing.{lineRoom}
 use Rattle.turns.proofs.Listed.{within, no-room, as-read}
@@ -13,8 +12,8 @@ returns : tie.Need-returns
 returns c =
     let counted = c .before .before .before in
     let a = counted .before .before .before .args in
-    let p = no-room (now (a .input)) (a .have) (counted .least .result) (counted .least .ensures) (a .shown) (c .start .ensures) in
-    (p .0, p .1, λ _. record { state = p .2; unread = refl; unwritten = refl })
+    let none = sym (c .before .before .roomy .ensures) ∙ not-true _ (c .before .if1 .taken) in
+    no-room (now (a .input)) (a .have) (counted .least .result) (counted .least .ensures) (a .shown) (now (a .out)) none (c .start .ensures)
 
 all-turns-requires : tie.Need-all-turns-requires
 all-turns-requires c κs =
@@ -27,12 +26,9 @@ all-turns-requires c κs =
 returns-2 : tie.Need-returns-2
 returns-2 c =
     let listed = c .before .before .before .before in
-    let left = listed .before .before .before in
-    let asked = left .before in
-    let counted = asked .before in
+    let counted = listed .before .before .before .before .before in
     let a = counted .before .before .before .args in
-    let l = listed .all-turns .ensures in
-    (l .0, as-read (now (a .input)) (a .have) (counted .least .result) (counted .least .ensures) (l .1), λ e. absurd (subst T (sym (sym (asked .roomy .ensures) ∙ not-false _ (left .if1 .left)) ∙ e) tt))
+    as-read (now (a .input)) (a .have) (counted .least .result) (counted .least .ensures) (listed .all-turns .ensures)
 
 pub list-records-spec : {M : Type 1} → statement M
 list-records-spec =
