@@ -16,7 +16,7 @@ abbrev noKinds : Kinds
 noKinds = record { none = 0; cut = 0; outside = 0; late = 0; ahead = 0 }
 
 abbrev noSums : Sums
-noSums = record { «sum_above» = 0; unsummed = 0; summed = 0; «largest_above» = 0; «smallest_below» = 0 }
+noSums = record { «smallest_below» = 0; «largest_above» = 0; «sum_above» = 0; summed = 0; unsummed = 0 }
 
 unfoldable pub noTally : Tally
 noTally = record { kinds = noKinds; sums = noSums }
@@ -68,18 +68,18 @@ unfoldable pub sumsAfter : ℕ → Sums → Sums
 sumsAfter above s =
     cond (ltb (s .summed) mostSummed)
     (record {
-      «sum_above» = (s .«sum_above» + above) % 2 ^ 64;
-      unsummed = s .unsummed;
-      summed = s .summed + 1;
-      «largest_above» = greater (s .«largest_above») above;
       «smallest_below» = greater (s .«smallest_below») (4_294_967_295 - above);
+      «largest_above» = greater (s .«largest_above») above;
+      «sum_above» = (s .«sum_above» + above) % 2 ^ 64;
+      summed = s .summed + 1;
+      unsummed = s .unsummed;
     })
     (record {
-      «sum_above» = s .«sum_above»;
-      unsummed = raised (s .unsummed);
-      summed = s .summed;
-      «largest_above» = s .«largest_above»;
       «smallest_below» = s .«smallest_below»;
+      «largest_above» = s .«largest_above»;
+      «sum_above» = s .«sum_above»;
+      summed = s .summed;
+      unsummed = raised (s .unsummed);
     })
 
 -- what the sums stand for

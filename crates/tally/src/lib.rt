@@ -18,15 +18,15 @@ pub struct Kinds {
 // Offsets lie between -2,147,483,648 and 2,147,483,647. Each is kept by how far it is from one of these ends, so that no number is below
 // zero and all of them start at zero.
 pub struct Sums {
-    // the sum of how far each summed offset is above the lowest end
-    pub sum_above: u64,
-    // late or ahead, and past the first 1,000,000; this count too stays at its largest value
-    pub unsummed: u64,
-    pub summed: u32,
-    // how far the largest is above the lowest end
-    pub largest_above: u32,
     // how far the smallest is below the highest end
     pub smallest_below: u32,
+    // how far the largest is above the lowest end
+    pub largest_above: u32,
+    // the sum of how far each summed offset is above the lowest end
+    pub sum_above: u64,
+    pub summed: u32,
+    // late or ahead, and past the first 1,000,000; this count too stays at its largest value
+    pub unsummed: u64,
 }
 
 pub struct Tally {
@@ -61,11 +61,11 @@ pub fn none_yet() -> Tally
             ahead: 0,
         },
         sums: Sums {
-            sum_above: 0,
-            unsummed: 0,
-            summed: 0,
-            largest_above: 0,
             smallest_below: 0,
+            largest_above: 0,
+            sum_above: 0,
+            summed: 0,
+            unsummed: 0,
         },
     }
 }
@@ -154,10 +154,10 @@ fn add(sums: Sums, above: u32) -> Sums
 {
     let mut after = sums;
     if sums.summed < MOST_SUMMED {
+        after.smallest_below = greater(sums.smallest_below, u32::MAX - above);
+        after.largest_above = greater(sums.largest_above, above);
         after.sum_above = std::num::wrapping_add_u64(sums.sum_above, above as u64);
         after.summed = sums.summed + 1;
-        after.largest_above = greater(sums.largest_above, above);
-        after.smallest_below = greater(sums.smallest_below, u32::MAX - above);
         return after;
     }
     after.unsummed = raise(true, sums.unsummed);

@@ -9,6 +9,7 @@ use borrow.Author.Tests.{lt-ltb, le-ltb, ltb-true, ltb-false}
 use lib.Dec.{ltb}
 use lib.ListN.{length, length-append}
 use Rattle.text.specs.Text.{digits, decimal}
+use Rattle.text.specs.Private.{fourDigits}
 
 -- where there may be more digits than n has, it does not matter how many there may be
 enough : (j k n : ℕ) (small : Bool) → ltb n 10 ≡ small → n < j → n < k → digits j n ≡ digits k n
@@ -73,7 +74,7 @@ four-length n h =
     let e : n / 100 / 100 ≡ n / 10000 = omega arith in
     rw (← e) (omega (arith, pair-length n (omega arith), pair-length (n / 100) (omega arith)))
 
-pub decimal-four : (n : ℕ) → 10000 ≤ n → decimal n ≡ decimal (n / 10000) ++ ((48 + n % 10000 / 1000) ∷ (48 + n % 10000 / 100 % 10) ∷ (48 + n % 10000 / 10 % 10) ∷ (48 + n % 10000 % 10) ∷ [])
+pub decimal-four : (n : ℕ) → 10000 ≤ n → decimal n ≡ decimal (n / 10000) ++ fourDigits (n % 10000)
 decimal-four n h =
     let e : n / 100 / 100 ≡ n / 10000 = omega arith in
     let a : n / 100 % 100 / 10 ≡ n % 10000 / 1000 = omega arith in

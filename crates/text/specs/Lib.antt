@@ -1,3 +1,4 @@
 pub mod Text
 pub mod Putting
 pub mod InTurn
+pub mod Private

@@ -9,6 +9,7 @@ ghost use lib.ListN.{length};
 ghost use lib.Seq.{sets};
 ghost use Rattle.text.specs.Text.{decimal, signed};
 ghost use Rattle.text.specs.Putting.{saturated, Put};
+ghost use Rattle.text.specs.Private.{digitBytes, lowBytes};
 
 // Does a buffer of `len` bytes have room for `size` of them at place `at`?
 fn has_room(len: usize, at: usize, size: usize) -> bool
@@ -108,32 +109,6 @@ fn put_digits(out: &mut [u8], at: usize, end: usize, n: u64)
     }
 }
 
-// Four digits, also where the first are zeros, as one number: the first digit is its lowest byte. A pair p with t tens is the bytes t and
-// p - 10 t, that is 256 p - 2559 t, here for both pairs at once. Quotients by 100 and by 10 are taken by a product and a shift, which does
-// for numbers as small as these.
-fn four_digits(n: u64) -> u64
-    requires { ⌜ n < 10000 ⌝ }
-    ensures { λ r. ⌜ r ≡ 48 + n / 1000 + 256 * (48 + n / 100 % 10) + 65536 * (48 + n / 10 % 10) + 16777216 * (48 + n % 10) ⌝ }
-{
-    let high = n * 5_243 / 524_288;
-    let low = n - high * 100;
-    let tens = high * 103 / 1_024 + low * 103 / 1_024 * 65_536;
-    let both = high + low * 65_536;
-    0x3030_3030 + both * 256 - tens * 2_559
-}
-
-// The compiler makes one store of the four.
-fn put_four(out: &mut [u8], at: usize, n: u64)
-    requires { ⌜ (at + 4 ≤ length (now out)) × (n < 10000) ⌝ }
-    ensures { λ _. ⌜ now (out .exit) ≡ sets (now (out .entry)) at ((48 + n / 1000) ∷ (48 + n / 100 % 10) ∷ (48 + n / 10 % 10) ∷ (48 + n % 10) ∷ []) ⌝ }
-{
-    let text = four_digits(n);
-    out[at] = (text % 256) as u8;
-    out[at + 1] = (text / 256 % 256) as u8;
-    out[at + 2] = (text / 65_536 % 256) as u8;
-    out[at + 3] = (text / 16_777_216 % 256) as u8;
-}
-
 // A number below a hundred, and the place after it.
 fn put_up_to_two(out: &mut [u8], at: usize, n: u64) -> usize
     requires { ⌜ (at + 2 ≤ length (now out)) × (n < 100) ⌝ }
@@ -159,6 +134,46 @@ fn put_up_to_four(out: &mut [u8], at: usize, n: u64) -> usize
     next + 2
 }
 
+// Eight digits, also where the first are zeros, as one number: the first digit is its lowest byte. A number with h hundreds is the pairs h and
+// n - 100 h, and a pair with t tens is the bytes t and p - 10 t; here all at once, side by side in one number. Quotients by 100 and by 10
+// are taken by a product and a shift, which does for numbers as small as these.
+fn eight_digits(n: u64) -> u64
+    requires { ⌜ n < 100000000 ⌝ }
+    ensures { λ r. ⌜ r ≡ digitBytes (n / 10000) + 4294967296 * digitBytes (n % 10000) ⌝ }
+{
+    let both = n / 10_000 + n % 10_000 * 4_294_967_296;
+    let by_hundred = both * 5_243 / 524_288;
+    let hundreds = by_hundred % 128 + by_hundred / 4_294_967_296 % 128 * 4_294_967_296;
+    let pairs = both * 65_536 - hundreds * 6_553_599;
+    let by_ten = pairs * 103 / 1_024;
+    let low_tens = by_ten % 16 + by_ten / 65_536 % 16 * 65_536;
+    let high_tens = by_ten / 4_294_967_296 % 16 + by_ten / 281_474_976_710_656 % 16 * 65_536;
+    let tens = low_tens + high_tens * 4_294_967_296;
+    0x3030_3030_3030_3030 + pairs * 256 - tens * 2_559
+}
+
+// The compiler makes one store of the four.
+fn put_low_bytes(out: &mut [u8], at: usize, n: u64)
+    requires { ⌜ at + 4 ≤ length (now out) ⌝ }
+    ensures { λ _. ⌜ now (out .exit) ≡ sets (now (out .entry)) at (lowBytes n) ⌝ }
+{
+    out[at] = (n % 256) as u8;
+    out[at + 1] = (n / 256 % 256) as u8;
+    out[at + 2] = (n / 65_536 % 256) as u8;
+    out[at + 3] = (n / 16_777_216 % 256) as u8;
+}
+
+// The first four bytes of a text and, so many places on, its last four: they stand over what is too much of the first.
+fn put_ends(out: &mut [u8], at: usize, first: u64, size: usize, last: u64) -> usize
+    requires { ⌜ (at + 8 ≤ length (now out)) × (size ≤ 4) ⌝ }
+    ensures { λ r. ⌜ (now (out .exit) ≡ sets (sets (now (out .entry)) at (lowBytes first)) (at + size) (lowBytes last)) × (r ≡ at + size + 4) ⌝ }
+{
+    put_low_bytes(out, at, first);
+    put_low_bytes(out, at + size, last);
+    at + size + 4
+}
+
+// From the first digit that is not a leading zero.
 fn put_up_to_eight(out: &mut [u8], at: usize, n: u64) -> usize
     requires { ⌜ (at + 8 ≤ length (now out)) × (n < 100000000) ⌝ }
     ensures { λ r. ⌜ (now (out .exit) ≡ sets (now (out .entry)) at (decimal n)) × (r ≡ at + length (decimal n)) ⌝ }
@@ -166,9 +181,18 @@ fn put_up_to_eight(out: &mut [u8], at: usize, n: u64) -> usize
     if n < 10_000 {
         return put_up_to_four(out, at, n);
     }
-    let next = put_up_to_four(out, at, n / 10_000);
-    put_four(out, next, n % 10_000);
-    next + 4
+    let text = eight_digits(n);
+    let last = text / 4_294_967_296;
+    if n < 100_000 {
+        return put_ends(out, at, text / 16_777_216, 1, last);
+    }
+    if n < 1_000_000 {
+        return put_ends(out, at, text / 65_536, 2, last);
+    }
+    if n < 10_000_000 {
+        return put_ends(out, at, text / 256, 3, last);
+    }
+    put_ends(out, at, text, 4, last)
 }
 
 // Any number, wherever it may stand: its digits are counted first.
@@ -223,9 +247,8 @@ fn put_negative(out: &mut [u8], at: usize, n: u64) -> usize
 pub fn put_signed(out: &mut [u8], at: usize, z: i64) -> usize
     ensures { λ r. ⌜ Put (now (out .entry)) at (signed z) (now (out .exit)) r ⌝ }
 {
-    let far = magnitude(z);
     if z < 0 {
-        return put_negative(out, at, far);
+        return put_negative(out, at, magnitude(z));
     }
-    put_decimal(out, at, far)
+    put_decimal(out, at, magnitude(z))
 }

@@ -7,8 +7,9 @@ use Rattle.tally.proofs.add.Tie as tie
 returns : tie.Need-returns
 unfolding sumsAfter
 returns c =
-    let start = c .before .before .before in
-    rw (lt-ltb _ _ (start .before .if1 .taken), start .wrapping-add-u64 .ensures, c .before .greater .ensures, c .greater2 .ensures)
+    let largest = c .before .before in
+    let smallest = largest .before in
+    rw (lt-ltb _ _ (smallest .before .if1 .taken), smallest .greater .ensures, largest .greater2 .ensures, c .before .wrapping-add-u64 .ensures)
 
 returns-2 : tie.Need-returns-2
 unfolding sumsAfter
@@ -18,11 +19,11 @@ pub add-spec : {M : Type 1} → statement M
 add-spec =
     tie.close
     (tie.spec
-    (λ c κs. search needs)
     (λ c. search needs)
     (λ c κs. search needs)
-    (λ c. search needs)
     (λ c κs. search needs)
+    (λ c κs. search needs)
+    (λ c. search needs)
     returns
     (λ c κs. search needs)
     returns-2)

@@ -8,24 +8,25 @@ use Rattle.text.proofs.Signs.{signed-below, signed-above}
 use Rattle.text.proofs.put_signed.Statement.{statement}
 use Rattle.text.proofs.put_signed.Tie as tie
 
-far : (c : tie.After-magnitude) → c .magnitude .result ≡ natAbs (c .before .before .args .z)
-far c = c .magnitude .ensures ∙ ap natAbs (toZ-ofZ (c .before .before .fits .z))
-
 returns : tie.Need-returns
 returns c =
     let done = c .before .before in
-    let asked = done .before .before in
-    let start = asked .before .before .before in
+    let measured = done .before in
+    let asked = measured .before .before in
+    let start = asked .before .before in
     let h : ltZ (start .args .z) (pos 0) ≡ true = rw (toZ-ofZ (start .fits .z)) at (asked .if1 .taken) in
-    rw (signed-below (start .args .z) h, ← far (asked .before)) (done .put-negative .ensures)
+    let far : measured .magnitude .result ≡ natAbs (start .args .z) = measured .magnitude .ensures ∙ ap natAbs (toZ-ofZ (start .fits .z)) in
+    rw (signed-below (start .args .z) h, ← far) (done .put-negative .ensures)
 
 returns-2 : tie.Need-returns-2
 returns-2 c =
     let done = c .before .before in
-    let asked = done .before .before in
-    let start = asked .before .before .before in
+    let measured = done .before in
+    let asked = measured .before .before in
+    let start = asked .before .before in
     let h : ltZ (start .args .z) (pos 0) ≡ false = rw (toZ-ofZ (start .fits .z)) at (asked .if1 .left) in
-    rw (signed-above (start .args .z) h, ← far (asked .before)) (done .put-decimal .ensures)
+    let far : measured .magnitude2 .result ≡ natAbs (start .args .z) = measured .magnitude2 .ensures ∙ ap natAbs (toZ-ofZ (start .fits .z)) in
+    rw (signed-above (start .args .z) h, ← far) (done .put-decimal .ensures)
 
 pub put-signed-spec : {M : Type 1} → statement M
 put-signed-spec =
@@ -35,6 +36,7 @@ put-signed-spec =
     (λ c κs. search needs)
     (λ c. search needs)
     returns
+    (λ c κs. search needs)
     (λ c κs. search needs)
     (λ c. search needs)
     returns-2)
