@@ -39,8 +39,9 @@ module _ {first input d : List ℕ} {s : State} {input′ d′ : List ℕ} (l : 
         text = λ e. rw (sym unchanged, sym (same-text e)) p;
         fits = rw (p .place) (omega (arith, after-below 0 (tableText (s .table)), short));
         failed = λ e. absurd (false≢true (sym e ∙ read));
+        written = λ e. l .room e .written refl;
       }
 
   pub no-report : isRead (s .stage) ≡ false → Reports first d (record { stage = s .stage; end = 0 }) d′
   no-report unread =
-      record { behind = l .listing .behind; text = λ e. absurd (false≢true (sym unread ∙ e)); fits = omega arith; failed = λ _. (refl, unchanged) }
+      record { behind = l .listing .behind; text = λ e. absurd (false≢true (sym unread ∙ e)); fits = omega arith; failed = λ _. (refl, unchanged); written = λ e. l .room e .written refl }

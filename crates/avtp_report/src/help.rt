@@ -37,10 +37,11 @@ pub(crate) fn show_help() {
         \x20 16      late or ahead, and not among these\n\
         \n\
         avtp_report(1) explains each column, and avtp_list(1) each line of a capture's\n\
-        listing, of which these are the totals.\n\
+        listing, of which these are the totals. avtp_list --help has the format of\n\
+        captures.\n\
         \n\
         The exit status is 0 in every case (signals aside, as where the reader of a\n\
-        pipe leaves). What went wrong is said on standard error, and then no line is\n\
-        printed.\n",
+        pipe leaves). What went wrong is said on standard error; where not all could\n\
+        be read, no line is printed.\n",
     );
 }

@@ -15,7 +15,8 @@ struct Reported {
     end: usize,
 }
 
-// The report of a capture of which so many bytes have been read. No line of a record is shown, and the table at the end has the report's.
+// The report of a capture of which so many bytes have been read. No line of a listing is written; the report's are those of the table that is
+// left.
 fn report_records(fd: i32, input: &mut [u8], have: usize, out: &mut [u8]) -> Reported
     ensures { λ r. ⌜ Reports (take have (now (input .entry))) (now (out .entry)) r (now (out .exit)) ⌝ }
 {
@@ -83,7 +84,7 @@ fn report_named(name: &[u8]) {
     libc::close(fd);
 }
 
-// The one name, which stands behind the program's own or, where that is `--`, behind it.
+// The one name: the first word or, where that is `--`, the second.
 fn report_argument(request: Request) {
     let mut room = io::buffer();
     let mut place = 1;

@@ -9,7 +9,7 @@ use lib.ListN.{length}
 use Rattle.presentation.specs.declared.Kind.{Kind}
 use Rattle.presentation.specs.declared.Kind.the-variants.{None, Cut, Outside, Late, Ahead}
 use Rattle.tally.specs.Tally.{kindNumber}
-use Rattle.report.specs.Report.{FrameLine, howMany, isKind, countsOf, kindsOf}
+use Rattle.report.specs.Report.{ListedFrame, howMany, isKind, countsOf, kindsOf}
 use Rattle.report.specs.Totals.{KindsAddUp}
 
 -- one frame more, of any kind
@@ -21,7 +21,7 @@ one-kind Outside a b c d e n h = omega arith
 one-kind Late a b c d e n h = omega arith
 one-kind Ahead a b c d e n h = omega arith
 
-each-one : (xs : List FrameLine) → howMany (isKind None) xs + howMany (isKind Cut) xs + howMany (isKind Outside) xs + howMany (isKind Late) xs + howMany (isKind Ahead) xs ≡ length xs
+each-one : (xs : List ListedFrame) → howMany (isKind None) xs + howMany (isKind Cut) xs + howMany (isKind Outside) xs + howMany (isKind Late) xs + howMany (isKind Ahead) xs ≡ length xs
 unfolding howMany
 each-one [] = refl
 each-one (x ∷ xs) = one-kind (x .timing .kind) _ _ _ _ _ _ (each-one xs)

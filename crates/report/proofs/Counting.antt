@@ -16,10 +16,10 @@ use Rattle.stream.specs.declared.Record.{Record}
 use Rattle.stream.specs.Records.{bump}
 use Rattle.stream.specs.Answers.{answerOf, after}
 use Rattle.stream.proofs.Laws.{after-frames, after-sequence-breaks, after-block-breaks, after-format-changes, after-mr-changes}
-use Rattle.report.specs.Report.{FrameLine, howMany, capped32, capped64, countsOf, isKind, kindsOf}
+use Rattle.report.specs.Report.{ListedFrame, howMany, capped32, capped64, countsOf, isKind, kindsOf}
 use Rattle.report.proofs.Following.{shownOf}
 
-how-many-more : (p : FrameLine → Bool) (xs : List FrameLine) (x : FrameLine) → howMany p (xs ++ (x ∷ [])) ≡ howMany p xs + cond (p x) 1 0
+how-many-more : (p : ListedFrame → Bool) (xs : List ListedFrame) (x : ListedFrame) → howMany p (xs ++ (x ∷ [])) ≡ howMany p xs + cond (p x) 1 0
 unfolding howMany
 how-many-more p [] x = omega arith
 how-many-more p (y ∷ xs) x = rw (how-many-more p xs x) (go (p y))
@@ -39,13 +39,13 @@ bump-capped true n = go (ltb (capped32 n) 4_294_967_295) refl
     go true e = let h = ltb-true (capped32 n) 4_294_967_295 e in omega arith
     go false e = let h = ltb-false (capped32 n) 4_294_967_295 e in omega arith
 
-flag-more : (p : FrameLine → Bool) (xs : List FrameLine) (x : FrameLine) (c : ℕ) → c ≡ capped32 (howMany p xs) → bump (p x) c ≡ capped32 (howMany p (xs ++ (x ∷ [])))
+flag-more : (p : ListedFrame → Bool) (xs : List ListedFrame) (x : ListedFrame) (c : ℕ) → c ≡ capped32 (howMany p xs) → bump (p x) c ≡ capped32 (howMany p (xs ++ (x ∷ [])))
 flag-more p xs x c e = ap (bump (p x)) e ∙ bump-capped (p x) (howMany p xs) ∙ ap capped32 (sym (how-many-more p xs x))
 
-frames-more : (xs : List FrameLine) (x : FrameLine) (c : ℕ) → c ≡ capped32 (length xs) → bump true c ≡ capped32 (length (xs ++ (x ∷ [])))
+frames-more : (xs : List ListedFrame) (x : ListedFrame) (c : ℕ) → c ≡ capped32 (length xs) → bump true c ≡ capped32 (length (xs ++ (x ∷ [])))
 frames-more xs x c e = ap (bump true) e ∙ bump-capped true (length xs) ∙ ap capped32 (sym (length-append xs (x ∷ [])))
 
-pub counts-more : (r : Record) (xs : List FrameLine) (frame : List ℕ) (L : ℕ) → r .counts ≡ countsOf xs
+pub counts-more : (r : Record) (xs : List ListedFrame) (frame : List ℕ) (L : ℕ) → r .counts ≡ countsOf xs
     → after r frame L .counts ≡ countsOf (xs ++ (shownOf (answerOf r frame L) ∷ []))
 unfolding countsOf
 counts-more r xs frame L e =
@@ -67,14 +67,14 @@ raised-capped n = go (ltb (capped64 n) 18_446_744_073_709_551_615) refl
     go true e = let h = ltb-true (capped64 n) 18_446_744_073_709_551_615 e in omega arith
     go false e = let h = ltb-false (capped64 n) 18_446_744_073_709_551_615 e in omega arith
 
-kind-more : (p : FrameLine → Bool) (xs : List FrameLine) (x : FrameLine) (c : ℕ) → c ≡ capped64 (howMany p xs) → raisedIf (p x) c ≡ capped64 (howMany p (xs ++ (x ∷ [])))
+kind-more : (p : ListedFrame → Bool) (xs : List ListedFrame) (x : ListedFrame) (c : ℕ) → c ≡ capped64 (howMany p xs) → raisedIf (p x) c ≡ capped64 (howMany p (xs ++ (x ∷ [])))
 kind-more p xs x c e = ap (raisedIf (p x)) e ∙ go (p x) ∙ ap capped64 (sym (how-many-more p xs x))
   where
     go : (b : Bool) → raisedIf b (capped64 (howMany p xs)) ≡ capped64 (howMany p xs + cond b 1 0)
     go true = raised-capped (howMany p xs)
     go false = omega arith
 
-pub kinds-more : (xs : List FrameLine) (x : FrameLine) (k : Kinds) → k ≡ kindsOf xs → kindsAfter (x .timing .kind) k ≡ kindsOf (xs ++ (x ∷ []))
+pub kinds-more : (xs : List ListedFrame) (x : ListedFrame) (k : Kinds) → k ≡ kindsOf xs → kindsAfter (x .timing .kind) k ≡ kindsOf (xs ++ (x ∷ []))
 unfolding kindsOf
 kinds-more xs x k e =
     let none = kind-more (isKind None) xs x _ (ap (λ (k : Kinds). k .none) e) in

@@ -22,7 +22,7 @@ use Rattle.capture.specs.Records.{Held, damaged, arrival, admission, removal, f
 use Rattle.capture.proofs.Kept.{kept}
 use Rattle.lines.specs.Lines.{admitted as line-admitted, removed as line-removed, refused}
 use Rattle.listing.specs.Listing.{Said, changeLine, frameLine, frameStream, step, visit}
-use Rattle.report.specs.Report.{FrameLine, isAbout, framesBy, since}
+use Rattle.report.specs.Report.{ListedFrame, isAbout, framesBy, since}
 
 -- ---- places of a table
 
@@ -51,24 +51,24 @@ none-in-use (suc n) (suc i) r e u = none-in-use n i r e u
 -- ---- what the lines show, and one line more
 
 -- what the line of an accepted frame shows of its answer
-abbrev pub shownOf : Answer → FrameLine
+abbrev pub shownOf : Answer → ListedFrame
 shownOf a = record { flags = a .flags; timing = a .timing }
 
 abbrev Shows : Type 0
-Shows = ℕ → List FrameLine
+Shows = ℕ → List ListedFrame
 
 abbrev more : Said → Shows → Shows
 more x shows id = cond (isAbout id (x .stream)) (framesBy (x .line) (shows id)) (shows id)
 
-since-more : (id : ℕ) (shown : List FrameLine) (said : List Said) (x : Said) → since id shown (said ++ (x ∷ [])) ≡ more x (λ id. since id shown said) id
+since-more : (id : ℕ) (shown : List ListedFrame) (said : List Said) (x : Said) → since id shown (said ++ (x ∷ [])) ≡ more x (λ id. since id shown said) id
 unfolding since
 since-more id shown [] x = refl
 since-more id shown (y ∷ said) x = since-more id (more y (λ id. shown) id) said x
 
 -- ---- P holds of a record newly admitted of which nothing is shown, and goes on with each accepted frame
 
-module _ (P : Record → List FrameLine → Type 0) (none-yet : (id : ℕ) → P (admitted id) [])
-    (one-more : (r : Record) (shown : List FrameLine) (frame : List ℕ) (L : ℕ) → P r shown
+module _ (P : Record → List ListedFrame → Type 0) (none-yet : (id : ℕ) → P (admitted id) [])
+    (one-more : (r : Record) (shown : List ListedFrame) (frame : List ℕ) (L : ℕ) → P r shown
     → P (after r frame L) (shown ++ (shownOf (answerOf r frame L) ∷ []))) where
   -- and no two records in use hold one id
   pub record Follows (t : Table) (shows : Shows) : Type 0 where
@@ -119,7 +119,7 @@ module _ (P : Record → List FrameLine → Type 0) (none-yet : (id : ℕ) → P
     after-refusal : (id n : ℕ) → Follows t (more (record { stream = some id; line = refused n }) f)
     after-refusal id n = alike t f _ (λ k. same (eqb id k) (f k)) was
       where
-        same : (b : Bool) (x : List FrameLine) → cond b x x ≡ x
+        same : (b : Bool) (x : List ListedFrame) → cond b x x ≡ x
         same true x = refl
         same false x = refl
 

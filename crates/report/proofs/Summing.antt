@@ -11,7 +11,7 @@ use borrow.Author.Tests.{lt-ltb, le-ltb}
 use Rattle.wrapping.proofs.Signed.{by-lt}
 use Rattle.tally.specs.declared.Sums.{Sums}
 use Rattle.tally.specs.Tally.{isTimed, mostSummed, aboveLowest, greater as further, raised, sumsAfter}
-use Rattle.report.specs.Report.{FrameLine, capped64, offsets, lesser, greater, fold}
+use Rattle.report.specs.Report.{ListedFrame, capped64, offsets, lesser, greater, fold}
 use Rattle.report.specs.Totals.{SumsOver}
 use Rattle.report.proofs.Counting.{raised-capped}
 use Rattle.report.proofs.Distances.{above, below, belowHighest, InRange, near, is-above, is-below, greater-above, lesser-below, further-0, sum-of}
@@ -23,7 +23,7 @@ fold-more f d (c ∷ ds) e = fold-more f (f d c) ds e
 
 -- ---- the offsets
 
-offsets-more : (xs : List FrameLine) (x : FrameLine) → offsets (xs ++ (x ∷ [])) ≡ offsets xs ++ cond (isTimed (x .timing .kind)) (x .timing .offset ∷ []) []
+offsets-more : (xs : List ListedFrame) (x : ListedFrame) → offsets (xs ++ (x ∷ [])) ≡ offsets xs ++ cond (isTimed (x .timing .kind)) (x .timing .offset ∷ []) []
 unfolding offsets
 offsets-more [] x = refl
 offsets-more (y ∷ xs) x = rw (offsets-more xs x) (go (isTimed (y .timing .kind)) (offsets xs) (cond (isTimed (x .timing .kind)) (x .timing .offset ∷ []) []))
@@ -143,7 +143,7 @@ one-offset s ds was d r =
     (λ h. rw (lt-ltb (s .summed) 1_000_000 h) (summed-more mostSummed (omega arith) s ds was d r h))
     (λ h. rw (le-ltb (s .summed) 1_000_000 h) (unsummed-more mostSummed (omega arith) s ds was d r h))
 
-pub sums-more : (s : Sums) (xs : List FrameLine) (x : FrameLine) → InRange (x .timing .offset) → SumsOf mostSummed s (offsets xs)
+pub sums-more : (s : Sums) (xs : List ListedFrame) (x : ListedFrame) → InRange (x .timing .offset) → SumsOf mostSummed s (offsets xs)
     → SumsOf mostSummed (cond (isTimed (x .timing .kind)) (sumsAfter (aboveLowest (x .timing .offset)) s) s) (offsets (xs ++ (x ∷ [])))
 sums-more s xs x r was = subst (SumsOf mostSummed _) (sym (offsets-more xs x)) (go (isTimed (x .timing .kind)))
   where

@@ -11,7 +11,7 @@ use Rattle.stream.specs.Records.{admitted}
 use Rattle.stream.specs.Answers.{answerOf, after}
 use Rattle.stream.proofs.Laws.{after-tally}
 use Rattle.listing.specs.Listing.{visit}
-use Rattle.report.specs.Report.{FrameLine, since, howMany, countsOf, kindsOf, offsets, report}
+use Rattle.report.specs.Report.{ListedFrame, since, howMany, countsOf, kindsOf, offsets, report}
 use Rattle.report.specs.Totals.{Totals, TotalsOfLines, OneLineEach, ReportOfTable}
 use Rattle.report.proofs.Following.{shownOf, follows}
 use Rattle.report.proofs.Counting.{counts-more, kinds-more}
@@ -20,7 +20,7 @@ use Rattle.report.proofs.Ranges.{answer-range}
 use Rattle.report.proofs.Texts.{table-text}
 
 -- what a record holds of the frames shown
-record Holds (r : Record) (xs : List FrameLine) : Type 0 where
+record Holds (r : Record) (xs : List ListedFrame) : Type 0 where
   pub counts : r .counts ≡ countsOf xs
   pub kinds : r .tally .kinds ≡ kindsOf xs
   pub sums : SumsOf mostSummed (r .tally .sums) (offsets xs)
@@ -29,7 +29,7 @@ none-yet : (id : ℕ) → Holds (admitted id) []
 unfolding admitted noTally howMany countsOf kindsOf offsets
 none-yet id = record { counts = refl; kinds = refl; sums = record { summed = refl; unsummed = refl; stands = (refl, refl, refl); small = omega arith } }
 
-one-more : (r : Record) (xs : List FrameLine) (frame : List ℕ) (L : ℕ) → Holds r xs
+one-more : (r : Record) (xs : List ListedFrame) (frame : List ℕ) (L : ℕ) → Holds r xs
     → Holds (after r frame L) (xs ++ (shownOf (answerOf r frame L) ∷ []))
 unfolding counted
 one-more r xs frame L h =
@@ -45,7 +45,7 @@ one-more r xs frame L h =
 pub totals-of-lines : TotalsOfLines
 totals-of-lines capture i r e u = totals (follows Holds none-yet one-more capture .own i r e u)
   where
-    totals : {xs : List FrameLine} → Holds r xs → Totals r xs
+    totals : {xs : List ListedFrame} → Holds r xs → Totals r xs
     totals {xs} h =
         record {
           counts = h .counts;

@@ -1,10 +1,13 @@
--- The report of document 01's capture, of its parts, and of a visit with a removal.
+-- A line of a report, the report of document 01's capture and of its parts, and that of a visit with a removal.
 use Prim.Native.Nat.{ℕ}
 use mathlib.Core.Path.{_≡_}
+use mathlib.Core.Bool.{true, false}
 use mathlib.Core.List.{List, [], _++_, reverse}
 use lib.ListN.{take}
 use Rattle.wire.specs.Numbers.{bytes}
 use Rattle.text.specs.Text.{ascii}
+use Rattle.stream.specs.declared.Record.{Record}
+use Rattle.report_lines.specs.Columns.{recordText}
 use Rattle.listing.specs.Example.{frameWith, soundFrame, recordBytes, exampleCapture}
 use Rattle.report.specs.Report.{report}
 
@@ -43,14 +46,14 @@ visitCapture =
     ++ recordBytes 3 (bytes 8 1)
     ++ recordBytes 2 (bytes 8 3)
     ++ recordBytes 2 (bytes 8 1)
-    ++ frameAt 1000 stamped 0 984 dbc0
-    ++ frameAt 1000 restarted 1 990 dbc0
+    ++ frameAt 1000 stamped 0 990 dbc0
+    ++ frameAt 1000 restarted 1 984 dbc0
     ++ frameAt 1000 stamped 3 996 dbc0
     ++ frameAt 1000 restarted 3 1002 dbc0
-    ++ frameAt 1000 stamped 5 1003 dbc0
+    ++ frameAt 1000 stamped 5 1006 dbc0
     ++ frameAt 1000 restarted 6 1005 dbc7
-    ++ frameAt 1000 restarted 7 1006 dbc0
-    ++ frameAt 10 restarted 8 4_294_967_290 dbc0
+    ++ frameAt 1000 restarted 7 1003 dbc0
+    ++ frameAt 10 restarted 8 4_294_967_286 dbc0
     ++ frameAt 1000 unstamped 9 1001 dbs7
     ++ frameAt 1000 unstamped 10 1001 dbs7
 
@@ -60,7 +63,28 @@ visitReport =
     ++ ascii "12 10 3 2 1 5 2 0 1 3 4 -16 6 -14 -14/7 0\n"
     ++ ascii "1 0 0 0 0 0 0 0 0 0 0 none none none none 0\n"
 
+-- a record in which each column is another number: three offsets were summed that come to −14, from −16 to 11
+abbrev sampleRecord : Record
+sampleRecord =
+    record {
+      «in_use» = true;
+      seen = true;
+      id = 12;
+      sequence = 0;
+      «next_dbc» = 0;
+      mr = false;
+      format = record { fmt = 0; dbs = 0; «fraction_number» = 0; sph = false };
+      counts = record { frames = 40; «sequence_breaks» = 1; «block_breaks» = 2; «format_changes» = 4; «mr_changes» = 5 };
+      tally =
+          record {
+            kinds = record { none = 6; cut = 7; outside = 8; late = 9; ahead = 10 };
+            sums = record { «smallest_below» = 2_147_483_663; «largest_above» = 2_147_483_659; «sum_above» = 6_442_450_930; summed = 3; unsummed = 13 };
+          };
+    }
+
 pub record WorkedReport : Type 0 where
+  -- every column of a line, in its place
+  pub columns : recordText sampleRecord ≡ ascii "12 40 1 2 4 5 6 7 8 9 10 -16 11 -14 -14/3 13\n"
   -- the stream is admitted
   pub admitted : report (take 12 exampleCapture) ≡ ascii "1 0 0 0 0 0 0 0 0 0 0 none none none none 0\n"
   -- and has a frame with L 1000, T 3000; then another stream, which is not admitted, has one

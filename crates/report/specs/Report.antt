@@ -21,8 +21,8 @@ use Rattle.report_lines.specs.Columns.{summedText, noneText, streamLine}
 
 -- ---- A stream's accepted frames since its last admission, by the listing's lines
 
--- what the line of an accepted frame is made from; of the timing it shows the kind and the offset
-pub record FrameLine : Type 0 where
+-- an accepted frame by what its line is made from; of the timing the line shows the kind and the offset
+pub record ListedFrame : Type 0 where
   pub flags : Flags
   pub timing : Timing
 
@@ -32,19 +32,19 @@ isAbout id none = false
 isAbout id (some stream) = eqb stream id
 
 -- admission starts anew, removal drops what there was, and what is refused changes nothing
-abbrev pub framesBy : Line → List FrameLine → List FrameLine
+abbrev pub framesBy : Line → List ListedFrame → List ListedFrame
 framesBy admitted frames = []
 framesBy removed frames = []
 framesBy (refused number) frames = frames
 framesBy (frame flags timing) frames = frames ++ (record { flags = flags; timing = timing } ∷ [])
 
-unfoldable pub since : ℕ → List FrameLine → List Said → List FrameLine
+unfoldable pub since : ℕ → List ListedFrame → List Said → List ListedFrame
 since id frames [] = frames
 since id frames (x ∷ xs) = since id (cond (isAbout id (x .stream)) (framesBy (x .line) frames) frames) xs
 
 -- ---- Counts
 
-unfoldable pub howMany : (FrameLine → Bool) → List FrameLine → ℕ
+unfoldable pub howMany : (ListedFrame → Bool) → List ListedFrame → ℕ
 howMany p [] = 0
 howMany p (x ∷ xs) = cond (p x) (suc (howMany p xs)) (howMany p xs)
 
@@ -56,7 +56,7 @@ capped32 n = min 4_294_967_295 n
 abbrev pub capped64 : ℕ → ℕ
 capped64 n = min 18_446_744_073_709_551_615 n
 
-unfoldable pub countsOf : List FrameLine → Counts
+unfoldable pub countsOf : List ListedFrame → Counts
 countsOf xs =
     record {
       frames = capped32 (length xs);
@@ -68,10 +68,10 @@ countsOf xs =
 
 -- ---- Kinds
 
-abbrev pub isKind : Kind → FrameLine → Bool
+abbrev pub isKind : Kind → ListedFrame → Bool
 isKind kind x = eqb (kindNumber (x .timing .kind)) (kindNumber kind)
 
-unfoldable pub kindsOf : List FrameLine → Kinds
+unfoldable pub kindsOf : List ListedFrame → Kinds
 kindsOf xs =
     record {
       none = capped64 (howMany (isKind None) xs);
@@ -84,7 +84,7 @@ kindsOf xs =
 -- ---- Smallest, largest, sum and mean
 
 -- the offsets of those ahead or late, in their order
-unfoldable pub offsets : List FrameLine → List ℤ
+unfoldable pub offsets : List ListedFrame → List ℤ
 offsets [] = []
 offsets (x ∷ xs) = cond (isTimed (x .timing .kind)) (x .timing .offset ∷ offsets xs) (offsets xs)
 
@@ -105,11 +105,11 @@ fourText (d ∷ ds) = summedText (fold lesser d ds) (fold greater d ds) (fold _+
 
 -- ---- The report
 
-unfoldable pub streamText : ℕ → List FrameLine → List ℕ
+unfoldable pub streamText : ℕ → List ListedFrame → List ℕ
 streamText id xs = streamLine id (countsOf xs) (kindsOf xs) (fourText (take mostSummed (offsets xs))) (capped64 (length (offsets xs) - mostSummed))
 
 -- a line for each stream that is admitted at the end, in table order
-unfoldable pub reportOf : Table → (ℕ → List FrameLine) → List ℕ
+unfoldable pub reportOf : Table → (ℕ → List ListedFrame) → List ℕ
 reportOf [] frames = []
 reportOf (r ∷ t) frames = cond (r .«in_use») (streamText (r .id) (frames (r .id))) [] ++ reportOf t frames
 

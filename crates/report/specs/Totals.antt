@@ -11,14 +11,14 @@ use Rattle.tally.specs.Tally.{mostSummed, smallest, largest, sum}
 use Rattle.stream.specs.declared.Record.{Record}
 use Rattle.listing.specs.Listing.{visit}
 use Rattle.report_lines.specs.Columns.{tableText}
-use Rattle.report.specs.Report.{FrameLine, since, countsOf, kindsOf, capped64, offsets, lesser, greater, fold, report}
+use Rattle.report.specs.Report.{ListedFrame, since, countsOf, kindsOf, capped64, offsets, lesser, greater, fold, report}
 
 -- smallest, largest and sum are those of these offsets
 abbrev pub SumsOver : Sums → List ℤ → Type 0
 SumsOver s [] = Unit {0}
 SumsOver s (d ∷ ds) = (smallest s ≡ fold lesser d ds) × (largest s ≡ fold greater d ds) × (sum s ≡ fold _+ℤ_ d ds)
 
-pub record Totals (r : Record) (xs : List FrameLine) : Type 0 where
+pub record Totals (r : Record) (xs : List ListedFrame) : Type 0 where
   pub counts : r .counts ≡ countsOf xs
   pub kinds : r .tally .kinds ≡ kindsOf xs
   pub summed : r .tally .sums .summed ≡ length (take mostSummed (offsets xs))
@@ -40,5 +40,5 @@ ReportOfTable = (capture : List ℕ) → report capture ≡ tableText (visit cap
 
 -- in every line the kinds add up to the accepted frames, while that count is below its cap
 abbrev pub KindsAddUp : Type 0
-KindsAddUp = (xs : List FrameLine) → countsOf xs .frames < 4_294_967_295
+KindsAddUp = (xs : List ListedFrame) → countsOf xs .frames < 4_294_967_295
     → (let k = kindsOf xs in k .none + k .cut + k .outside + k .late + k .ahead ≡ countsOf xs .frames)

@@ -64,6 +64,7 @@ recordText r = streamLine (r .id) (r .counts) (r .tally .kinds) (sumsText (r .ta
 abbrev pub usedText : Record → List ℕ
 usedText r = cond (r .«in_use») (recordText r) []
 
+-- of a table that is lent with one id twice both have one; a capture leaves no such table (`OneLineEach`)
 unfoldable pub tableText : List Record → List ℕ
 tableText [] = []
 tableText (r ∷ t) = usedText r ++ tableText t

@@ -63,7 +63,7 @@ greater a b = cond (ltb a b) b a
 abbrev pub mostSummed : ℕ
 mostSummed = 1_000_000
 
--- those after them are counted; only a record that was lent with another sum reaches 2^64
+-- later ones are only counted. The sum wraps at 2^64, which it reaches only from a sum that was lent
 unfoldable pub sumsAfter : ℕ → Sums → Sums
 sumsAfter above s =
     cond (ltb (s .summed) mostSummed)
@@ -82,7 +82,7 @@ sumsAfter above s =
       unsummed = raised (s .unsummed);
     })
 
--- what the sums stand for
+-- what the sums stand for, where some were summed
 abbrev pub smallest : Sums → ℤ
 smallest s = pos 2_147_483_647 -ℤ pos (s .«smallest_below»)
 

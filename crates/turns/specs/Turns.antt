@@ -116,7 +116,7 @@ pub record NothingListed (first input d : List ℕ) (s : State) (input′ d′ :
   pub unwritten : d′ ≡ d
 
 -- a capture of which the first bytes had been read before, with the input and the output d that were lent: s is the state that is answered,
--- and input′ and d′ are the two then. Where lines are shown, what the output holds is free
+-- and input′ and d′ are the two then. What the input holds outside its places is free, and the output where lines are shown
 pub record RecordsListed (shown : Bool) (first input d : List ℕ) (s : State) (input′ d′ : List ℕ) : Type 0 where
   pub listing : Listing shown first input′ s
   pub places : InPlace input′ s

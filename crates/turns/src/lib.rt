@@ -13,6 +13,7 @@ ghost use Rattle.turns.specs.Turns.{stageBy, isGoing, isRead, started, I
 pub enum Stage {
     Going,
     AllRead,
+    // reading failed, or the input has no room for the rest of a record
     CannotRead,
     // standard output takes no more, or the output has no room for a line
     CannotWrite,
@@ -153,8 +154,9 @@ fn all_turns(fd: i32, input: &mut [u8], have: usize, out: &mut [u8], shown: bool
     s
 }
 
-// Goes through the records of a capture of which so many bytes have been read, as far as the buffer has them, and writes their lines to
-// standard output, where they are shown. Where the output has no room for a line, nothing is read and nothing is listed.
+// Goes through the records of a capture of which so many bytes stand at the front of the input already, all of it where they are more than it
+// has, and writes their lines to standard output, where they are shown. Where the output has no room for a line, nothing is read and nothing
+// is listed.
 pub fn list_records(fd: i32, input: &mut [u8], have: usize, out: &mut [u8], shown: bool) -> State
     ensures { λ r. ⌜ RecordsListed shown (take have (now (input .entry))) (now (input .entry)) (now (out .entry)) r (now (input .exit)) (now (out .exit)) ⌝ }
 {
