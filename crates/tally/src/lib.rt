@@ -94,7 +94,7 @@ fn number_of(kind: Kind) -> u8
     }
 }
 
-// Most frames are late or ahead. The others are counted together, which the compiler copies in fewer steps than each by itself.
+// Most frames are late or ahead. The others are counted together: the compiler then moves their counts two at a time.
 fn count_kind(kinds: Kinds, kind: Kind) -> Kinds
     ensures { λ r. ⌜ r ≡ kindsAfter kind kinds ⌝ }
 {

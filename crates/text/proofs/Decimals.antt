@@ -9,7 +9,6 @@ use borrow.Author.Tests.{lt-ltb, le-ltb, ltb-true, ltb-false}
 use lib.Dec.{ltb}
 use lib.ListN.{length, length-append}
 use Rattle.text.specs.Text.{digits, decimal}
-use Rattle.text.specs.Private.{fourDigits}
 
 -- where there may be more digits than n has, it does not matter how many there may be
 enough : (j k n : ℕ) (small : Bool) → ltb n 10 ≡ small → n < j → n < k → digits j n ≡ digits k n
@@ -73,6 +72,10 @@ pub four-length : (n : ℕ) → 10000 ≤ n → length (decimal n) ≡ length (d
 four-length n h =
     let e : n / 100 / 100 ≡ n / 10000 = omega arith in
     rw (← e) (omega (arith, pair-length n (omega arith), pair-length (n / 100) (omega arith)))
+
+-- the four digits of a number below ten thousand, also where the first are zeros
+abbrev pub fourDigits : ℕ → List ℕ
+fourDigits n = (48 + n / 1000) ∷ (48 + n / 100 % 10) ∷ (48 + n / 10 % 10) ∷ (48 + n % 10) ∷ []
 
 pub decimal-four : (n : ℕ) → 10000 ≤ n → decimal n ≡ decimal (n / 10000) ++ fourDigits (n % 10000)
 decimal-four n h =

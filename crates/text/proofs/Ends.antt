@@ -6,8 +6,8 @@ use native.Mathlib.Omega.{arith}
 use lib.ListN.{length}
 use lib.Seq.{sets}
 use Rattle.text.specs.Text.{decimal}
-use Rattle.text.specs.Private.{fourDigits, digitBytes, lowBytes}
-use Rattle.text.proofs.Decimals.{decimal-small, decimal-two, decimal-pair, four-length, decimal-four}
+use Rattle.text.specs.Private.{digitBytes, lowBytes}
+use Rattle.text.proofs.Decimals.{decimal-small, decimal-two, decimal-pair, four-length, fourDigits, decimal-four}
 use Rattle.text.proofs.Sets.{front-over}
 
 -- ---- Numbers below ten thousand by their digits

@@ -2,11 +2,7 @@
 use Prim.Native.Nat.{ℕ, _+_, _*_, _/_, _%_}
 use mathlib.Core.List.{List, [], _∷_}
 
--- the four digits of a number below ten thousand, also where the first are zeros
-abbrev pub fourDigits : ℕ → List ℕ
-fourDigits n = (48 + n / 1000) ∷ (48 + n / 100 % 10) ∷ (48 + n / 10 % 10) ∷ (48 + n % 10) ∷ []
-
--- as one number: the first digit is its lowest byte
+-- the four digits of a number below ten thousand, also where the first are zeros, as one number: the first digit is its lowest byte
 abbrev pub digitBytes : ℕ → ℕ
 digitBytes n = 48 + n / 1000 + 256 * (48 + n / 100 % 10) + 65536 * (48 + n / 10 % 10) + 16777216 * (48 + n % 10)
 
