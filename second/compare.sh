@@ -7,10 +7,9 @@
 # standard input. Both programs list COUNT captures made from SEED, and their
 # listings must agree byte for byte; some captures also go to the first program
 # through a pipe in small pieces. Then it is shown how often each thing that a
-# listing can say came up, and each way in which source packets can lie in a
-# frame (starts.rs says which there are), and each that must come up has to. A
-# capture that differs is named by its number; it is made again by
-# `generate DIR SEED COUNT`.
+# listing can say came up, and each case of a rule that it doesn't show (starts.rs
+# and qpc.rs say which there are), and each that must come up has to. A capture that
+# differs is named by its number; it is made again by `generate DIR SEED COUNT`.
 set -euo pipefail
 
 if (($# < 1 || $# > 3)); then
@@ -55,11 +54,11 @@ compare_piped
 
 # --- What came up -----------------------------------------------------------
 
-"$work/second_starts" "${captures[@]}" >"$work/starts"
+"$work/second_cases" "${captures[@]}" >"$work/cases"
 covered=true
 awk "$counting"'
     BEGIN {
-        for (i = 1; i <= 15; i++) known("refused " i)
+        for (i = 1; i <= 16; i++) known("refused " i)
         split("21 22 23 41 42 43", more)
         for (i = 1; i <= 6; i++) known("refused " more[i])
         split("seq=ok seq=break dbc=ok dbc=break fmt=ok fmt=change mr=ok mr=change", flags)
@@ -78,6 +77,11 @@ awk "$counting"'
         # With FN 0 every block opens a source packet.
         split("start within,start last,no start,wrap up to start,dbs=0 no start", above, ",")
         for (i = 1; i <= 5; i++) for (fn = 1; fn <= 3; fn++) known("sph fn=" fn " " above[i])
+        for (i = 1; i <= 7; i++) known("qpc=" i " alone")
+        # A frame that is refused 1 ends before QPC.
+        for (i = 2; i <= 15; i++) known("qpc with " i)
+        split("seq dbc fmt mr", shows)
+        for (i = 1; i <= 4; i++) known("qpc shows in " shows[i])
         # A block is never shorter than a stamp, so a frame whose stamp would be
         # cut is refused 14.
         forbidden("time=cut")
@@ -92,11 +96,11 @@ awk "$counting"'
         if ($7 == "time=outside") came($8 ~ /-/ ? $7 " below 0" : $7 " past 64 bits")
         next
     }
-    $1 == "sph" { came($0); next }
+    /^(sph|qpc)/ { came($0); next }
     $0 == "avtp listing 1" { next }
     /^end records=[0-9]+$/ { if ($2 == "records=0") came($0); next }
     { came("any other line") }
     END { exit !shown() }
-' "$listings" "$work/starts" || covered=false
+' "$listings" "$work/cases" || covered=false
 
 conclude "$covered"

@@ -111,6 +111,7 @@ second_answers | awk -v fewest="$fewest" -v total="$work/total" "$counting"'
         for (i = 61; i <= 63; i++) known("nanosecond refused " i)
         # A question has no room for a frame that is refused 2.
         for (i = 1; i <= 14; i++) if (i != 2) known("frame refused " i)
+        known("frame refused 16")
         known("frame refused 62")
         split("none late ahead", kinds)
         for (i = 1; i <= 3; i++) known("frame " kinds[i])

@@ -30,8 +30,9 @@ prepare() {
 # What the two programs print for the same captures.
 first_out=$work/first.out
 second_out=$work/second.out
-# Every one of this many captures goes through a pipe too.
-piped_each=17
+# Every one of this many captures goes through a pipe too. It shares no factor with
+# the 17 of kinds.rs, so that captures of each kind do.
+piped_each=18
 # The captures for which they print something different, by name.
 declare -A differing=()
 

@@ -166,8 +166,8 @@ fn cycle_offset(syt_cycle: u16, syt_offset: u16, time: CycleTime) -> i64 {
     offset
 }
 
-/// Judges a frame that arrived at `arrival` by its SYT, or answers the first of
-/// the numbers 1 to 14 that applies, or 62.
+/// Judges a frame that arrived at `arrival` by its SYT, or answers the number that
+/// the reader refuses it with, or else 62.
 pub fn judge(frame: &[u8], arrival: Nanoseconds) -> Result<Judgement, Refusal> {
     let cip = parse_frame(frame)?.cip;
     if cip.low_half == NO_SYT || cip.sph || cip.sid == NO_SYT_SID {
@@ -371,9 +371,9 @@ mod tests {
             assert_eq!(judged(&with(with_syt(stamp), 42, 63), 5), NONE);
             assert_eq!(judged(&with(with_syt(stamp), 42, 0xFF), 5), NONE);
         }
-        // The SID before it, and all of the byte around SPH.
+        // The SID before it, and the byte of SPH with all else that may be set.
         assert_eq!(judged(&with(with_syt(0x0000), 42, 0xFE), 0), Ok((CycleKind::Ahead, 0)));
-        assert_eq!(judged(&with(with_syt(0x0000), 44, 0xFB), 0), Ok((CycleKind::Ahead, 0)));
+        assert_eq!(judged(&with(with_syt(0x0000), 44, 0xC3), 0), Ok((CycleKind::Ahead, 0)));
     }
 
     #[test]
@@ -394,6 +394,11 @@ mod tests {
             assert_eq!(judged(&with(with_syt(stamp), 40, 0), 0), Err(12));
             assert_eq!(judged(&of_length(with_syt(stamp), 7), 0), Err(13));
             assert_eq!(judged(&with(of_length(with_syt(stamp), 7), 42, 63), 0), Err(13));
+            assert_eq!(judged(&with(of_length(with_syt(stamp), 7), 44, 0x18), 0), Err(13));
+            assert_eq!(judged(&with(with_syt(stamp), 44, 0x18), 0), Err(16));
+            // With SPH 1, and with SID 63.
+            assert_eq!(judged(&with(with_syt(stamp), 44, 0x1C), 0), Err(16));
+            assert_eq!(judged(&with(with(with_syt(stamp), 44, 0x18), 42, 63), 0), Err(16));
         }
         // tv isn't looked at, nor is the payload.
         let carrying = with(sound(1, &[0xFF; 4]), 19, 0x80);

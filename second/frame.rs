@@ -69,7 +69,8 @@ fn check_headers(head: &[u8; HEADERS]) -> Result<(), Refusal> {
     Ok(())
 }
 
-/// Reads a frame, or answers the first of the numbers 1 to 14 that applies.
+/// Reads a frame, or answers the first of the numbers 1 to 13, 16 (request #105) and
+/// 14, in this order, that applies.
 pub fn parse_frame(frame: &[u8]) -> Result<Frame<'_>, Refusal> {
     let Some((head, rest)) = frame.split_first_chunk::<HEADERS>() else {
         return Err(Refusal::FrameTooShort);
@@ -90,6 +91,9 @@ pub fn parse_frame(frame: &[u8]) -> Result<Frame<'_>, Refusal> {
         return Err(Refusal::LengthUnderCip);
     };
     let cip = Cip::parse(cip);
+    if cip.qpc != 0 {
+        return Err(Refusal::PaddingCount);
+    }
     let (size, block) = (payload.len() as u32, cip.block_size());
     if size % block != 0 {
         return Err(Refusal::BrokenBlock);
@@ -190,6 +194,31 @@ mod tests {
     }
 
     #[test]
+    fn qpc_that_is_not_0() {
+        let with_qpc = |frame, qpc: u8| with(frame, 44, qpc << 3);
+        for qpc in 1..=7 {
+            assert_eq!(refusal(&with_qpc(sound(1, &[]), qpc)), 16);
+            assert_eq!(refusal(&with_qpc(sound(1, &[0; 4]), qpc)), 16);
+        }
+        // With all the bits around it; these alone are accepted.
+        for qpc in [1, 2, 4] {
+            assert_eq!(refusal(&with(sound(1, &[]), 44, 0xC7 | qpc << 3)), 16);
+        }
+        for around in [0xC0, 0x04, 0x03, 0xC7] {
+            assert_eq!(refusal(&with(sound(1, &[]), 44, around)), 0);
+        }
+        // After 12 and 13, though the frame goes on to QPC, and before 14.
+        assert_eq!(refusal(&with_qpc(with(sound(1, &[]), 40, 0), 3)), 12);
+        for (length, kept) in [(3, 45), (7, 49), (7, 50)] {
+            let under_cip = with_qpc(of_length(sound(1, &[]), length), 3);
+            assert_eq!(refusal(&under_cip[..kept]), 13);
+        }
+        assert_eq!(refusal(&with_qpc(sound(1, &[0; 3]), 3)), 16);
+        assert_eq!(refusal(&with_qpc(with(sound(1, &[0; 4]), 43, 2), 3)), 16);
+        assert_eq!(refusal(&with_qpc(with(sound(1, &[0; 1020]), 43, 0), 3)), 16);
+    }
+
+    #[test]
     fn all_fields() {
         let head: [u8; 50] = [
             0x91, 0xE0, 0xF0, 0x00, 0x0E, 0x80, // destination
@@ -199,7 +228,7 @@ mod tests {
             0x01, 0x23, 0x45, 0x67, 0x89, 0xAB, 0xCD, 0xEF, // stream id
             0xFE, 0xDC, 0xBA, 0x98, 0x76, 0x54, 0x32, 0x10, // timestamp, gateway info
             0x00, 0x0C, 0x7F, 0x35, // length 12, tag 1, channel 63, tcode 3, sy 5
-            0xEA, 0x01, 0xB3, 0xFA, // SID 42, DBS 1, FN 2, QPC 6, DBC 250
+            0xEA, 0x01, 0x83, 0xFA, // SID 42, DBS 1, FN 2, QPC 0, DBC 250
             0x50, 0x84, 0xAB, 0xCD, // FMT 16, FDF 0x84
         ];
         let frame = [&head[..], &[9, 8, 7, 6], &[0xFF; 3]].concat();
@@ -207,7 +236,7 @@ mod tests {
             sid: 42,
             dbs: 1,
             fraction: 2,
-            qpc: 6,
+            qpc: 0,
             sph: false,
             dbc: 250,
             fmt: 16,
@@ -236,6 +265,6 @@ mod tests {
         };
         assert_eq!(parse_frame(&frame), Ok(read));
         assert_eq!(parse_frame(&frame).unwrap().payload.as_ptr(), frame[50..].as_ptr());
-        assert!(parse_frame(&with(frame, 44, 0xB7)).unwrap().cip.sph);
+        assert!(parse_frame(&with(frame, 44, 0x87)).unwrap().cip.sph);
     }
 }

@@ -14,7 +14,7 @@
 //! capture, outcome, lines, input, reading, listing. A room names only those before
 //! it. They stand here, and not in a folder of this program, so that another program
 //! over the same rooms is another root beside this one, as `report.rs`, `cycles.rs`
-//! and `starts.rs` are: its `mod` lines name the rooms that it needs, and rustc finds
+//! and `cases.rs` are: its `mod` lines name the rooms that it needs, and rustc finds
 //! them by itself. The generator has a folder to itself: it knows the layouts by
 //! itself, so that a mistake in a room here is not made there as well.
 //!

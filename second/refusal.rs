@@ -21,6 +21,7 @@ pub enum Refusal {
     LengthUnderCip = 13,
     BrokenBlock = 14,
     StreamNotAdmitted = 15,
+    PaddingCount = 16,
     AlreadyAdmitted = 21,
     NoUnusedRecord = 22,
     RemovedNotAdmitted = 23,

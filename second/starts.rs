@@ -1,9 +1,7 @@
-//! Says how source packets lie in the frames of captures (request #102).
+//! Cases of source packets (request #102).
 //!
-//! `second_starts FILE..` goes through each capture named as `second_list` does. For
-//! each frame that is listed as one and has SPH 1, it writes a line such as
-//! `sph fn=2 start last` for each of these that is so. A start is a block that opens
-//! a source packet.
+//! A frame that is listed as one and has SPH 1 is some of these, each after its FN, as
+//! in `sph fn=2 start last`. A start is a block that opens a source packet.
 //!
 //! - `start first`, `start within`, `start last`: the first start is the first block,
 //!   one further on, the last of several blocks.
@@ -15,38 +13,13 @@
 //! - `wrap after start`: the count comes round to 0 after the first start.
 //! - `several starts`.
 //!
-//! A listing shows none of this, and `compare.sh` has to know that each came up. It
-//! is reckoned here from DBC, FN, DBS and the number of blocks, count by count, and
+//! It is reckoned here from DBC, FN, DBS and the number of blocks, count by count, and
 //! not from what the room of presentation times makes of the frame.
-//!
-//! This file is a root beside `list.rs`, over rooms that stand there too; from the
-//! bottom: wire, refusal, cip, frame, presentation, stream, table, capture, outcome,
-//! reading.
-//!
-//! Build: `build.sh OUTDIR`.
 
-mod capture;
-mod cip;
-mod frame;
-mod outcome;
-#[allow(dead_code)] // no time's kind is printed
-mod presentation;
-mod reading;
-#[allow(dead_code)] // nothing refused is printed
-mod refusal;
-#[cfg(test)]
-mod samples;
-mod stream;
-mod table;
-mod wire;
-
-use cip::Cip;
-use outcome::{carry_out, Outcome};
-use reading::{read_records, Failure, BUFFER};
-use std::fs::File;
-use std::io::{self, BufWriter, Read, Write};
-use std::process::ExitCode;
-use table::StreamTable;
+use crate::cip::Cip;
+use crate::outcome::Outcome;
+use crate::refusal::Refusal;
+use crate::table::Reception;
 
 /// What is so of a frame with SPH 1.
 fn cases(cip: &Cip, blocks: u32) -> Vec<&'static str> {
@@ -79,50 +52,20 @@ fn cases(cip: &Cip, blocks: u32) -> Vec<&'static str> {
     cases
 }
 
-/// Writes the lines of one capture.
-fn write_cases(input: &mut impl Read, out: &mut impl Write, buffer: &mut [u8]) -> io::Result<()> {
-    let mut table = StreamTable::new();
-    let done = read_records(input, buffer, |record| {
-        if let Ok(Outcome::Frame(reception)) = carry_out(&mut table, record) {
-            let (cip, blocks) = (reception.frame.cip, reception.frame.blocks);
-            if cip.sph {
-                for case in cases(&cip, blocks) {
-                    writeln!(out, "sph fn={} {case}", cip.fraction)?;
-                }
-            }
+/// What a record that comes to `outcome` is a case of.
+pub fn start_cases(outcome: &Result<Outcome, Refusal>) -> Vec<String> {
+    match outcome {
+        Ok(Outcome::Frame(Reception { frame, .. })) if frame.cip.sph => {
+            let line = |case| format!("sph fn={} {case}", frame.cip.fraction);
+            cases(&frame.cip, frame.blocks).into_iter().map(line).collect()
         }
-        Ok(())
-    });
-    match done {
-        Ok(_) => Ok(()),
-        Err(Failure::Read(error) | Failure::Write(error)) => Err(error),
-    }
-}
-
-/// Writes the lines of each capture named.
-fn write_all_cases() -> io::Result<()> {
-    let mut buffer = vec![0; BUFFER];
-    let mut out = BufWriter::new(io::stdout().lock());
-    for name in std::env::args_os().skip(1) {
-        write_cases(&mut File::open(name)?, &mut out, &mut buffer)?;
-    }
-    out.flush()
-}
-
-fn main() -> ExitCode {
-    match write_all_cases() {
-        Ok(()) => ExitCode::SUCCESS,
-        Err(error) => {
-            eprintln!("second_starts: {error}");
-            ExitCode::FAILURE
-        }
+        _ => vec![],
     }
 }
 
 #[cfg(test)]
 mod tests {
     use super::*;
-    use crate::samples::{admit_record, frame_record, sound, with};
 
     /// What is so of a frame with these fields, on one line.
     fn said(fraction: u8, dbc: u8, dbs: u8, blocks: u32) -> String {
@@ -167,23 +110,5 @@ mod tests {
             said(3, 255, 1, 258),
             "start within, wrap up to start, wrap after start, several starts"
         );
-    }
-
-    #[test]
-    fn only_frames_that_are_listed_with_sph_1() {
-        let frame = |id| with(with(sound(id, &[0; 8]), 44, 0x44), 45, 7);
-        let capture = [
-            frame_record(0, &frame(1)),
-            admit_record(1),
-            frame_record(0, &frame(1)),
-            frame_record(0, &frame(2)),
-            frame_record(0, &with(frame(1), 44, 0x40)),
-            frame_record(0, &with(frame(1), 43, 3)),
-            frame_record(0, &with(frame(1), 44, 0xC4)),
-        ]
-        .concat();
-        let mut out = Vec::new();
-        write_cases(&mut &capture[..], &mut out, &mut vec![0; BUFFER]).unwrap();
-        assert_eq!(out, b"sph fn=1 start last\nsph fn=3 start last\n");
     }
 }

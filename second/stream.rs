@@ -127,8 +127,9 @@ mod tests {
         assert_eq!(raised(&mut record, &with(frame(14, 19), 43, 2)), "");
         assert_eq!(raised(&mut record, &with(with(frame(15, 20), 43, 2), 44, 0x40)), "f");
         assert_eq!(raised(&mut record, &with(with(frame(16, 21), 43, 2), 44, 0x04)), "f");
-        // QPC, the reserved bits, FDF and SID are no part of the format.
-        assert_eq!(raised(&mut record, &with(with(frame(17, 22), 43, 2), 44, 0x3F)), "");
+        // The reserved bits, SID and FDF are no part of the format.
+        let sid = with(with(with(frame(17, 22), 43, 2), 44, 0x07), 42, 0x3F);
+        assert_eq!(raised(&mut record, &sid), "");
         let fmt = with(with(with(frame(18, 23), 43, 2), 44, 0x04), 46, 0xA0);
         assert_eq!(raised(&mut record, &fmt), "f");
         let fdf = with(with(with(fmt, 20, 19), 45, 24), 47, 0xFF);

@@ -113,6 +113,11 @@ mod tests {
         assert_eq!(streams.receive(&sound(1, &[]), 0), Err(Refusal::StreamNotAdmitted));
         // An unused record has id 0 and isn't the record of stream 0.
         assert_eq!(streams.receive(&sound(0, &[]), 0), Err(Refusal::StreamNotAdmitted));
+        // Whatever is wrong with the frame itself comes first.
+        let qpc = with(sound(1, &[]), 44, 0x18);
+        assert_eq!(streams.receive(&qpc, 0), Err(Refusal::PaddingCount));
+        let broken = with(sound(1, &[0; 4]), 43, 2);
+        assert_eq!(streams.receive(&broken, 0), Err(Refusal::BrokenBlock));
     }
 
     #[test]
@@ -130,6 +135,24 @@ mod tests {
         }
         let next = with(sound(1, &[]), 20, 5);
         assert_eq!(streams.receive(&next, 0).unwrap().flags, Flags::default());
+    }
+
+    #[test]
+    fn frames_with_qpc_change_nothing() {
+        // All that a record holds of the frame would be new.
+        let qpc = [(19, 0x89), (20, 9), (43, 2), (44, 0x5C), (45, 9), (46, 0x81)]
+            .into_iter()
+            .fold(sound(1, &[0; 8]), |frame, (at, byte)| with(frame, at, byte));
+        let mut streams = table(1);
+        // Before the first accepted frame, and after it.
+        for sequence in 4..=6 {
+            let before = streams.records;
+            assert_eq!(streams.receive(&qpc, 0), Err(Refusal::PaddingCount));
+            assert_eq!(streams.records, before);
+            let next = with(sound(1, &[]), 20, sequence);
+            assert_eq!(streams.receive(&next, 0).unwrap().flags, Flags::default());
+        }
+        assert!(streams.receive(&with(qpc, 44, 0x44), 0).is_ok());
     }
 
     #[test]

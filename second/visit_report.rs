@@ -202,6 +202,7 @@ mod tests {
             record(4, &1_u64.to_be_bytes()),
             frame_record(0, &sound(1, &[])[..41]),
             frame_record(0, &with(sound(1, &[]), 18, 1)),
+            frame_record(0, &with(sound(1, &[]), 44, 0x18)),
             vec![0, 0],
         ];
         assert_eq!(reported(&capture), ONE_FRAME);

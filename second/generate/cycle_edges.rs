@@ -196,8 +196,9 @@ const ACCEPTED: &[fn(&mut Frame)] = &[
         frame.sph = true;
         frame.carry(vec![0, 0, 0, 1]);
     },
-    // All the bits around SPH.
-    |frame| (frame.fraction, frame.qpc, frame.cip_reserved) = (3, 7, 3),
+    // All the bits around QPC, with SPH 0 and with SPH 1.
+    |frame| (frame.fraction, frame.cip_reserved) = (3, 3),
+    |frame| (frame.fraction, frame.sph, frame.cip_reserved) = (3, true, 3),
     // tv 0: the SYT is judged all the same.
     |frame| frame.tv = false,
     |frame| (frame.tv, frame.low_half) = (false, 0xFFFF),
@@ -239,11 +240,29 @@ const REFUSED: &[fn(&mut Frame)] = &[
     |frame| frame.source[0] |= 1,
     // 11.
     |frame| frame.stream_data_length = 9,
-    // 12, alone and with a SID and an SPH that would be none.
+    // 12, alone, with a SID and an SPH that would be none, and with a QPC.
     |frame| frame.tag = 0,
     |frame| (frame.tag, frame.sid, frame.sph) = (2, 63, true),
-    // 13.
+    |frame| (frame.tag, frame.qpc) = (3, 3),
+    // 13, alone and with a QPC.
     |frame| frame.stream_data_length = 7,
+    |frame| (frame.stream_data_length, frame.qpc) = (7, 3),
+    // 16: each QPC; with a SID or an SPH that would be none, with all the bits around
+    // it, and with a part of a block.
+    |frame| frame.qpc = 1,
+    |frame| frame.qpc = 2,
+    |frame| frame.qpc = 3,
+    |frame| frame.qpc = 4,
+    |frame| frame.qpc = 5,
+    |frame| frame.qpc = 6,
+    |frame| frame.qpc = 7,
+    |frame| (frame.qpc, frame.sid) = (3, 63),
+    |frame| (frame.qpc, frame.sph) = (3, true),
+    |frame| (frame.fraction, frame.qpc, frame.sph, frame.cip_reserved) = (3, 1, true, 3),
+    |frame| {
+        (frame.dbs, frame.qpc) = (2, 3);
+        frame.carry(vec![0; 4]);
+    },
     // 14: a part of a block, of DBS 2 and of DBS 0, and a part of a quadlet.
     |frame| {
         frame.dbs = 2;

@@ -1,7 +1,7 @@
 //! Questions about cycle time for a long comparison.
 
 use crate::chance::Chance;
-use crate::damage::{spoil, spoiled};
+use crate::damage::{spoil, spoiled, FIELD_CHECKS};
 use crate::frames::Frame;
 use crate::questions::{cycle_time_of, judgement_of, nanosecond_of, Question, LONGEST_FRAME};
 use crate::ticks::{first_nanosecond, syt, CYCLE_TICKS, SECOND, SECOND_TICKS};
@@ -161,7 +161,7 @@ fn damaged(chance: &mut Chance, frame: &mut Frame) -> Vec<u8> {
     // Only a block of one quadlet fits in with its payload.
     frame.dbs = 1;
     if chance.one_in(3) {
-        let number = chance.within(3, 14) as u8;
+        let number = chance.pick(FIELD_CHECKS);
         spoil(chance, frame, number);
     }
     match chance.below(16) {
@@ -182,7 +182,7 @@ fn damaged(chance: &mut Chance, frame: &mut Frame) -> Vec<u8> {
             frame.bytes()
         }
         _ => {
-            let number = chance.pick(&[1, 3, 4, 5, 6, 7, 8, 9, 10, 11, 12, 13, 14]);
+            let number = chance.pick(&[1, 3, 4, 5, 6, 7, 8, 9, 10, 11, 12, 13, 16, 14]);
             spoiled(chance, frame, number)
         }
     }

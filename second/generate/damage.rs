@@ -3,7 +3,14 @@
 use crate::chance::Chance;
 use crate::frames::{block_size, Frame};
 
-/// Makes the frame one that check `number` (3 to 14) refuses, if no other does.
+/// The checks of a frame itself, in their order.
+pub const CHECKS: [u8; 15] = [1, 2, 3, 4, 5, 6, 7, 8, 9, 10, 11, 12, 13, 16, 14];
+
+/// Those of what it says, after those of its length.
+pub const FIELD_CHECKS: &[u8] = CHECKS.split_at(2).1;
+
+/// Makes the frame one that check `number` (3 to 16) refuses, if no other does; for 15,
+/// if no stream is admitted whose id differs from the frame's in one bit.
 pub fn spoil(chance: &mut Chance, frame: &mut Frame, number: u8) {
     match number {
         3 => frame.tpid = chance.pick(&[0x8101, 0x8000, 0x0100, 0x9100, 0x88A8, 0x0081, 0]),
@@ -26,6 +33,8 @@ pub fn spoil(chance: &mut Chance, frame: &mut Frame, number: u8) {
         }
         12 => frame.tag = chance.pick(&[0, 2, 3]),
         13 => frame.stream_data_length = chance.pick(&[0, 1, 4, 6, 7, 7]),
+        15 => frame.stream_id ^= 1 << chance.below(64),
+        16 => frame.qpc = chance.within(1, 7) as u8,
         _ => {
             if frame.payload.len() < 4 {
                 frame.carry(vec![0; block_size(frame.dbs)]);

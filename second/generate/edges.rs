@@ -2,7 +2,7 @@
 
 use crate::captures::{Capture, SMALL};
 use crate::chance::Chance;
-use crate::damage::{spoil, spoiled};
+use crate::damage::{spoil, spoiled, FIELD_CHECKS};
 use crate::frames::{block_size, Frame};
 use crate::senders::{stream_ids, Sender};
 use crate::times::{arrival, offset, stamp};
@@ -13,31 +13,47 @@ pub fn refusals(chance: &mut Chance) -> Capture {
     let mut sender = Sender::new(chance, 7);
     sender.most_blocks = sender.most_blocks.min(if sender.frame.dbs == 0 { 1 } else { 4 });
     capture.admit(7);
-    for round in 0..60 {
+    for round in 0..64 {
         if capture.full() {
             break;
         }
         let at = arrival(chance);
         let mut frame = sender.send(chance, at);
-        let first = 1 + (round % 15) as u8;
-        if first == 15 {
-            frame.stream_id = 8;
-            if chance.flip() {
-                let number = chance.within(3, 14) as u8;
-                spoil(chance, &mut frame, number);
-            }
-            capture.frame(at, &frame.bytes());
-        } else {
-            let second = chance.within(3, 14) as u8;
-            if round >= 15 && second != first {
-                spoil(chance, &mut frame, second);
-            }
-            let bytes = spoiled(chance, &mut frame, first);
-            capture.frame(at, &bytes);
+        let first = 1 + (round % 16) as u8;
+        let second = chance.pick(FIELD_CHECKS);
+        if round >= 16 && second != first {
+            spoil(chance, &mut frame, second);
         }
+        let bytes = spoiled(chance, &mut frame, first);
+        capture.frame(at, &bytes);
         if chance.flip() {
             capture.frame(at, &sender.send(chance, at).bytes());
         }
+    }
+    capture
+}
+
+/// Frames with each QPC that isn't 0, then with any of them and each other thing that
+/// can be wrong. After each comes a sound one, which shows what is in the record.
+pub fn padding_counts(chance: &mut Chance) -> Capture {
+    let mut capture = Capture::new(SMALL);
+    let mut sender = Sender::new(chance, 7);
+    capture.admit(7);
+    for qpc in 1..=7 {
+        let at = arrival(chance);
+        sender.stray(chance);
+        let mut frame = sender.send(chance, at);
+        frame.qpc = qpc;
+        capture.frame(at, &frame.bytes());
+        capture.frame(at, &sender.send(chance, at).bytes());
+    }
+    for number in 2..=15 {
+        let at = arrival(chance);
+        let mut frame = sender.send(chance, at);
+        spoil(chance, &mut frame, 16);
+        let bytes = spoiled(chance, &mut frame, number);
+        capture.frame(at, &bytes);
+        capture.frame(at, &sender.send(chance, at).bytes());
     }
     capture
 }

@@ -99,7 +99,7 @@ impl Frame {
             sid: chance.byte() & 0x3F,
             dbs: 1,
             fraction: 0,
-            qpc: chance.byte() & 7,
+            qpc: 0,
             sph: false,
             cip_reserved: chance.byte() & 3,
             dbc: chance.byte(),

@@ -2,7 +2,7 @@
 
 use crate::captures::SMALL;
 use crate::chance::Chance;
-use crate::edges::{admissions, blocks, lengths, records, refusals, times};
+use crate::edges::{admissions, blocks, lengths, padding_counts, records, refusals, times};
 use crate::noise::{noise, turned_bits, turned_bytes};
 use crate::source_packets::source_packets;
 use crate::traffic::{cut, long, traffic};
@@ -17,7 +17,7 @@ pub fn capture(seed: u64, index: u64) -> Vec<u8> {
     if index % 100 == 50 {
         return long(chance).bytes;
     }
-    let capture = match index % 16 {
+    let capture = match index % 17 {
         0 => refusals(chance),
         1 => lengths(chance),
         2 => admissions(chance),
@@ -30,6 +30,7 @@ pub fn capture(seed: u64, index: u64) -> Vec<u8> {
         11 => cut(chance),
         12 => source_packets(chance),
         13 | 14 => visits(chance),
+        15 => padding_counts(chance),
         _ => {
             let records = chance.within(5, 190);
             traffic(chance, SMALL, records)

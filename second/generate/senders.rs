@@ -39,7 +39,6 @@ impl Sender {
             6 => frame.sph = !frame.sph,
             // None of these is a change of format.
             _ => {
-                frame.qpc = chance.byte() & 7;
                 frame.fdf = chance.byte();
                 frame.low_half = chance.next() as u16;
                 frame.cip_reserved = chance.byte() & 3;

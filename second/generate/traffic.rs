@@ -2,7 +2,7 @@
 
 use crate::captures::{Capture, SMALL};
 use crate::chance::Chance;
-use crate::damage::spoiled;
+use crate::damage::{spoiled, CHECKS};
 use crate::frames::Frame;
 use crate::senders::{stream_count, stream_ids, Sender};
 use crate::times::arrival;
@@ -27,7 +27,7 @@ fn send_with_trouble(chance: &mut Chance, capture: &mut Capture, sender: &mut Se
         6 | 7 => {
             let (sequence, dbc) = (sender.sequence, sender.dbc);
             let mut frame = sender.send(chance, at);
-            let number = chance.within(1, 14) as u8;
+            let number = chance.pick(&CHECKS);
             let bytes = spoiled(chance, &mut frame, number);
             capture.frame(at, &bytes);
             if chance.flip() {

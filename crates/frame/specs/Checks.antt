@@ -1,4 +1,4 @@
--- The checks of a received frame, in their order (document 01, Numbers answered).
+-- The checks of a received frame, in their order (document 01, Numbers answered; request #105).
 use Prim.Native.Nat.{ℕ, zero, suc, _-_, _*_, _%_}
 use mathlib.Core.Bool.{Bool, not, _||_}
 use mathlib.Core.List.{List, [], _∷_, _++_}
@@ -69,9 +69,11 @@ streamChecks n s =
     ∷ ltb (s .«data_length») 8 answers 13
     ∷ []
 
+-- 16 comes after 13 and before 14
 unfoldable pub blockChecks : Stream → Cip → List Check
 blockChecks s c =
-    partialBlock (s .«data_length» - 8) (c .dbs) answers 14
+    differs (c .qpc) 0 answers 16
+    ∷ partialBlock (s .«data_length» - 8) (c .dbs) answers 14
     ∷ []
 
 unfoldable pub headerChecks : ℕ → Header → List Check

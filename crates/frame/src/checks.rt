@@ -110,6 +110,10 @@ pub(crate) fn check_blocks(s: Stream, c: Cip) -> Verdict
     requires { ⌜ 8 ≤ s .«data_length» ⌝ }
     ensures { λ r. ⌜ verdictNumber r ≡ firstOf (blockChecks s c) ⌝ }
 {
+    // Zero for all types of IEC 61883 (IEEE 1722-2011, 6.2.6.4).
+    if c.qpc != 0 {
+        return Verdict::Refused(Refusal::WrongQpc);
+    }
     let data_length = s.data_length;
     if partial_block((data_length - 8) as usize, c.dbs) {
         return Verdict::Refused(Refusal::PartialBlock);

@@ -45,6 +45,7 @@ pub struct Cip {
     pub sid: u8,
     pub dbs: u8,
     pub fraction_number: u8,
+    // 0 in every accepted frame
     pub qpc: u8,
     pub sph: bool,
     pub dbc: u8,

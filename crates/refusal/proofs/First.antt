@@ -9,7 +9,7 @@ use borrow.Author.Tests.{lt-ltb, le-ltb, eq-eqb, ne-eqb}
 use lib.Dec.{T, eqb, ltb, ltb→lt}
 use mir.Facts.{and-yes}
 use Rattle.refusal.specs.declared.Refusal.{Refusal}
-use Rattle.refusal.specs.declared.Refusal.the-variants.{FrameTooShort, FrameTooLong, WrongTpid, CfiSet, WrongEthertype, ControlAvtpdu, WrongSubtype, WrongVersion, NoStreamId, WrongAddress, DataBeyondFrame, WrongTag, NoCipHeader, PartialBlock, NotAdmitted, TableTooLong, AlreadyAdmitted, TableFull, NothingToRemove, WriteWrongAddress, WriteFieldTooWide, WritePartialBlock, WritePayloadTooLong, WriteOutputTooShort, RecordCut, RecordLength, RecordKind, CycleTooLarge, OffsetInCycleTooLarge, CycleSecondsTooLarge}
+use Rattle.refusal.specs.declared.Refusal.the-variants.{FrameTooShort, FrameTooLong, WrongTpid, CfiSet, WrongEthertype, ControlAvtpdu, WrongSubtype, WrongVersion, NoStreamId, WrongAddress, DataBeyondFrame, WrongTag, NoCipHeader, PartialBlock, NotAdmitted, WrongQpc, TableTooLong, AlreadyAdmitted, TableFull, NothingToRemove, WriteWrongAddress, WriteFieldTooWide, WritePartialBlock, WritePayloadTooLong, WriteOutputTooShort, RecordCut, RecordLength, RecordKind, CycleTooLarge, OffsetInCycleTooLarge, CycleSecondsTooLarge}
 use Rattle.refusal.specs.declared.Verdict.{Verdict}
 use Rattle.refusal.specs.declared.Verdict.the-variants.{Passed, Refused}
 use Rattle.refusal.specs.Refusals.{verdictNumber, numberOf, Check, _answers_, firstOf}
@@ -31,6 +31,7 @@ positive WrongTag = (11, refl)
 positive NoCipHeader = (12, refl)
 positive PartialBlock = (13, refl)
 positive NotAdmitted = (14, refl)
+positive WrongQpc = (15, refl)
 positive TableTooLong = (19, refl)
 positive AlreadyAdmitted = (20, refl)
 positive TableFull = (21, refl)

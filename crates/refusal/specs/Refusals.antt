@@ -1,10 +1,10 @@
--- The numbers answered (document 01, Numbers answered; request #101).
+-- The numbers answered (document 01, Numbers answered; requests #101 and #105).
 use Prim.Native.Nat.{ℕ, zero, suc}
 use mathlib.Core.Bool.{Bool, not, cond}
 use mathlib.Core.List.{List, [], _∷_}
 use lib.Dec.{eqb}
 use Rattle.refusal.specs.declared.Refusal.{Refusal}
-use Rattle.refusal.specs.declared.Refusal.the-variants.{FrameTooShort, FrameTooLong, WrongTpid, CfiSet, WrongEthertype, ControlAvtpdu, WrongSubtype, WrongVersion, NoStreamId, WrongAddress, DataBeyondFrame, WrongTag, NoCipHeader, PartialBlock, NotAdmitted, TableTooLong, AlreadyAdmitted, TableFull, NothingToRemove, WriteWrongAddress, WriteFieldTooWide, WritePartialBlock, WritePayloadTooLong, WriteOutputTooShort, RecordCut, RecordLength, RecordKind, CycleTooLarge, OffsetInCycleTooLarge, CycleSecondsTooLarge}
+use Rattle.refusal.specs.declared.Refusal.the-variants.{FrameTooShort, FrameTooLong, WrongTpid, CfiSet, WrongEthertype, ControlAvtpdu, WrongSubtype, WrongVersion, NoStreamId, WrongAddress, DataBeyondFrame, WrongTag, NoCipHeader, PartialBlock, NotAdmitted, WrongQpc, TableTooLong, AlreadyAdmitted, TableFull, NothingToRemove, WriteWrongAddress, WriteFieldTooWide, WritePartialBlock, WritePayloadTooLong, WriteOutputTooShort, RecordCut, RecordLength, RecordKind, CycleTooLarge, OffsetInCycleTooLarge, CycleSecondsTooLarge}
 use Rattle.refusal.specs.declared.Verdict.{Verdict}
 use Rattle.refusal.specs.declared.Verdict.the-variants.{Passed, Refused}
 
@@ -24,6 +24,7 @@ numberOf WrongTag = 12
 numberOf NoCipHeader = 13
 numberOf PartialBlock = 14
 numberOf NotAdmitted = 15
+numberOf WrongQpc = 16
 numberOf TableTooLong = 20
 numberOf AlreadyAdmitted = 21
 numberOf TableFull = 22

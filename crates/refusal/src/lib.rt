@@ -3,7 +3,7 @@ ghost use mathlib.Core.Path.{_≡_};
 ghost use Rattle.refusal.specs.Refusals.{numberOf};
 
 pub enum Refusal {
-    // Reading a frame: 1 to 15.
+    // Reading and receiving a frame: 1 to 15, and 16 (request #105), which is asked between 13 and 14.
     FrameTooShort,
     FrameTooLong,
     WrongTpid,
@@ -19,6 +19,7 @@ pub enum Refusal {
     NoCipHeader,
     PartialBlock,
     NotAdmitted,
+    WrongQpc,
     // Tables: 20 to 23.
     TableTooLong,
     AlreadyAdmitted,
@@ -65,6 +66,7 @@ pub fn number(refusal: Refusal) -> u8
         Refusal::NoCipHeader => 13,
         Refusal::PartialBlock => 14,
         Refusal::NotAdmitted => 15,
+        Refusal::WrongQpc => 16,
         Refusal::TableTooLong => 20,
         Refusal::AlreadyAdmitted => 21,
         Refusal::TableFull => 22,

@@ -12,7 +12,7 @@ use Rattle.wire.proofs.Numbers.{number-of}
 use Rattle.frame.specs.Layout.{vlanRow, validRow, uncertainRow, packetRow, sourceRow, fractionRow, formatRow, ethernetOf, avtpOf, streamOf, cipOf, headerOf, fieldsOf}
 use Rattle.frame.specs.Checks.{lengthChecks, ethernetChecks, avtpChecks, addressChecks, streamChecks, blockChecks, headerChecks, readChecks, frameChecks, refusal}
 use Rattle.frame.specs.Reading.{reading, payloadOf}
-use Rattle.refusal.proofs.First.{none}
+use Rattle.refusal.proofs.First.{none, eq-not}
 use Rattle.writer.specs.declared.Sender.{Sender}
 use Rattle.writer.specs.declared.given.Given.{Given}
 use Rattle.writer.specs.Frames.{vlanValues, validValues, uncertainValues, packetValues, sourceValues, fractionValues, formatValues, ethernetBytes, avtpBytes, streamBytes, sourceBytes, formatBytes, headerBytes, frameBytes}
@@ -131,6 +131,7 @@ module _ (s : Sender) (g : Given) (p padding : List ℕ) (room : ℕ) (sender : 
         also le-ltb (n - 42) (length p + 8) (omega arith)
         also refl
         also le-ltb (length p + 8) 8 (omega arith)
+        also eq-not (g .cip .qpc) 0 (fitting g (ready .fits) .qpc)
         also rw cip (ready .whole)
         also tt))
 

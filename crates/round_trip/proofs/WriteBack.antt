@@ -20,7 +20,7 @@ use Rattle.frame.specs.Reading.{payloadOf}
 use Rattle.refusal.proofs.First.{clear}
 use Rattle.frame.proofs.Groups.{accepted-room}
 use Rattle.writer.specs.Frames.{vlanValues, packetValues, sourceValues, fractionValues, formatValues, ethernetBytes, avtpBytes, streamBytes, sourceBytes, formatBytes, headerBytes, frameBytes}
-use Rattle.writer.specs.Writing.{output, addressRow, ethernetFits, streamFits, cipFits, fieldsFit, writeChecks, writeRefusal}
+use Rattle.writer.specs.Writing.{output, addressRow, zeroQpcRow, ethernetFits, streamFits, cipFits, fieldsFit, writeChecks, writeRefusal}
 use Rattle.round_trip.specs.WriteBack.{FixedBits, senderOf, givenOf}
 use Rattle.round_trip.proofs.ReadBack.{size, output-of}
 use Rattle.wire.proofs.Fits.{fit-true}
@@ -55,6 +55,7 @@ record Sound (n : ℕ) (f : Fields) : Type 0 where
   sv : f .header .avtp .sv ≡ true
   addressed : misaddressed (f .header .ethernet .destination) (f .header .ethernet .source) ≡ false
   tag : 1 ≡ f .header .stream .tag
+  qpc : 0 ≡ f .cip .qpc
   whole : partialBlock (f .header .stream .«data_length» - 8) (f .cip .dbs) ≡ false
 
 sound : (n : ℕ) (f : Fields) → firstOf (readChecks n f) ≡ 0 → Sound n f
@@ -76,7 +77,8 @@ sound n f e =
       sv = not-false _ (avtp .1 .1 .1 .0);
       addressed = addresses .0;
       tag = same-as _ 1 (stream .1 .0);
-      whole = stream .1 .1 .1 .0;
+      qpc = same-as _ 0 (stream .1 .1 .1 .0);
+      whole = stream .1 .1 .1 .1 .0;
     }
 
 module _ (frame : List ℕ) (byte : Bytes frame) (ok : refusal frame ≡ 0) where
@@ -114,7 +116,7 @@ module _ (frame : List ℕ) (byte : Bytes frame) (ok : refusal frame ≡ 0) wher
       let v = fit-true vlanRow (vlanValues (g .ethernet)) (omega arith) in
       let p = fit-true packetRow (packetValues (g .stream)) (omega arith) in
       let s = fit-true sourceRow (sourceValues (g .cip)) (omega arith) in
-      let q = fit-true fractionRow (fractionValues (g .cip)) (omega arith) in
+      let q = fit-true zeroQpcRow (fractionValues (g .cip)) (omega (arith, checked .qpc)) in
       let f = fit-true formatRow (formatValues (g .cip)) (omega arith) in
       λ i. (a i && v i) && p i && (s i && q i && f i)
 

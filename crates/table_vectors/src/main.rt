@@ -107,6 +107,13 @@ fn frame_of(id: u64, sequence: u8, dbc: u8) -> [u8; 82] {
     out
 }
 
+// The same with QPC 3, which no writer puts there.
+fn frame_with_qpc_3(id: u64, sequence: u8, dbc: u8) -> [u8; 82] {
+    let mut frame = frame_of(id, sequence, dbc);
+    frame[44] = 0x18;
+    frame
+}
+
 // ---- A table of 65 records, lent
 
 struct Changed65 {
@@ -250,6 +257,11 @@ fn receive_cut(last: Record, id: u64, sequence: u8, dbc: u8) -> Record {
     receive_lent(last, &frame[0..41])
 }
 
+fn receive_with_qpc_3(last: Record, id: u64, sequence: u8, dbc: u8) -> Record {
+    let frame = frame_with_qpc_3(id, sequence, dbc);
+    receive_lent(last, &frame)
+}
+
 // Accepted, too short, accepted, of another stream, and repeated.
 fn show_alone() {
     say(b"# a record lent alone\n");
@@ -258,6 +270,15 @@ fn show_alone() {
     let c = receive_sent(b, 5, 0, 2);
     let d = receive_sent(c, 6, 0, 2);
     receive_sent(d, 5, 0, 2);
+}
+
+// QPC 3 in a frame of the stream, and in one of another, between two of its own.
+fn show_qpc_3() {
+    say(b"# QPC 3, to a record lent alone\n");
+    let a = receive_sent(stream::admitted(5), 5, 255, 250);
+    let b = receive_with_qpc_3(a, 5, 0, 2);
+    let c = receive_with_qpc_3(b, 6, 0, 2);
+    receive_sent(c, 5, 0, 2);
 }
 
 // An unused record is no stream's, though it holds the id 0.
@@ -360,6 +381,7 @@ fn show_full() {
 fn main() {
     show_too_long();
     show_alone();
+    show_qpc_3();
     show_unused();
     show_twice();
     show_ids();

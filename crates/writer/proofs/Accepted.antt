@@ -3,6 +3,7 @@ use Prim.Native.Nat.{ℕ, _+_, _≤_}
 use mathlib.Core.Path.{_≡_, sym, subst}
 use mathlib.Core.Bool.{true, false, _&&_}
 use mathlib.Core.List.{[], _∷_}
+use native.Mathlib.Omega.{arith}
 use borrow.Author.Tests.{ltb-false, not-false}
 use lib.Dec.{T}
 use mir.Facts.{and-yes}
@@ -12,15 +13,16 @@ use Rattle.frame.specs.Checks.{misaddressed, partialBlock}
 use Rattle.refusal.proofs.First.{Clear, clear}
 use Rattle.writer.specs.declared.given.Given.{Given}
 use Rattle.writer.specs.Frames.{vlanValues, packetValues, sourceValues, fractionValues, formatValues}
-use Rattle.writer.specs.Writing.{addressRow, ethernetFits, streamFits, cipFits, fieldsFit, writeChecks, writeRefusal}
+use Rattle.writer.specs.Writing.{addressRow, zeroQpcRow, ethernetFits, streamFits, cipFits, fieldsFit, writeChecks, writeRefusal}
 use Rattle.wire.proofs.Fits.{fit}
 
--- each value is within the bits of its field
+-- each value is within the bits of its field, and QPC is 0
 pub record Fitting (g : Given) : Type 0 where
   pub addresses : Fit addressRow (g .ethernet .destination ∷ g .ethernet .source ∷ [])
   pub vlan : Fit vlanRow (vlanValues (g .ethernet))
   pub packet : Fit packetRow (packetValues (g .stream))
   pub source : Fit sourceRow (sourceValues (g .cip))
+  pub qpc : g .cip .qpc ≡ 0
   pub fraction : Fit fractionRow (fractionValues (g .cip))
   pub cip : Fit formatRow (formatValues (g .cip))
 
@@ -38,19 +40,21 @@ fitting g e =
     let v = fits vlanRow (vlanValues (g .ethernet)) in
     let p = fits packetRow (packetValues (g .stream)) in
     let s = fits sourceRow (sourceValues (g .cip)) in
-    let q = fits fractionRow (fractionValues (g .cip)) in
+    let q = fits zeroQpcRow (fractionValues (g .cip)) in
     let f = fits formatRow (formatValues (g .cip)) in
     let all = and-yes (a && v && p) (s && q && f) (subst T (sym e) tt) in
     let front = and-yes (a && v) p (all .0) in
     let ethernet = and-yes a v (front .0) in
     let last = and-yes (s && q) f (all .1) in
     let cip = and-yes s q (last .0) in
+    let fraction = fit zeroQpcRow (fractionValues (g .cip)) (cip .1) in
     record {
       addresses = fit addressRow (g .ethernet .destination ∷ g .ethernet .source ∷ []) (ethernet .0);
       vlan = fit vlanRow (vlanValues (g .ethernet)) (ethernet .1);
       packet = fit packetRow (packetValues (g .stream)) (front .1);
       source = fit sourceRow (sourceValues (g .cip)) (cip .0);
-      fraction = fit fractionRow (fractionValues (g .cip)) (cip .1);
+      qpc = omega (arith, fraction .1 .0);
+      fraction = (fraction .0, (omega (arith, fraction .1 .0), fraction .1 .1));
       cip = fit formatRow (formatValues (g .cip)) (last .1);
     }
 

@@ -1,11 +1,11 @@
--- What a write answers and leaves (document 01, Numbers answered and Sending).
+-- What a write answers and leaves (document 01, Numbers answered and Sending; request #105).
 use Prim.Native.Nat.{ℕ, _+_, _%_}
 use mathlib.Core.Bool.{Bool, not, _&&_}
 use mathlib.Core.List.{List, [], _∷_, _++_}
 use lib.ListN.{length, drop}
 use lib.Dec.{ltb}
 use Rattle.wire.specs.Bits.{fits}
-use Rattle.frame.specs.Layout.{vlanRow, packetRow, sourceRow, fractionRow, formatRow}
+use Rattle.frame.specs.Layout.{vlanRow, packetRow, sourceRow, formatRow}
 use Rattle.refusal.specs.Refusals.{numberOf, ifAccepted, Check, _answers_, firstOf}
 use Rattle.frame.specs.Checks.{misaddressed, partialBlock}
 use Rattle.frame.specs.Reading.{blocksOf}
@@ -24,6 +24,10 @@ use Rattle.writer.specs.Frames.{vlanValues, packetValues, sourceValues, 
 abbrev pub addressRow : List ℕ
 addressRow = 48 ∷ 48 ∷ []
 
+-- FN, QPC, SPH, reserved: QPC has no bits to fit, so that 0 is its only value (request #105)
+abbrev pub zeroQpcRow : List ℕ
+zeroQpcRow = 2 ∷ 0 ∷ 1 ∷ 2 ∷ []
+
 unfoldable pub ethernetFits : EthernetFields → Bool
 ethernetFits a = fits addressRow (a .destination ∷ a .source ∷ []) && fits vlanRow (vlanValues a)
 
@@ -31,7 +35,7 @@ unfoldable pub streamFits : StreamFields → Bool
 streamFits o = fits packetRow (packetValues o)
 
 unfoldable pub cipFits : CipFields → Bool
-cipFits f = fits sourceRow (sourceValues f) && fits fractionRow (fractionValues f) && fits formatRow (formatValues f)
+cipFits f = fits sourceRow (sourceValues f) && fits zeroQpcRow (fractionValues f) && fits formatRow (formatValues f)
 
 -- the types of the fields not named here hold no number that is wider than its field
 unfoldable pub fieldsFit : Given → Bool

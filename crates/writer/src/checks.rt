@@ -27,7 +27,7 @@ fn stream_fits(o: StreamFields) -> bool
 fn cip_fits(f: CipFields) -> bool
     ensures { λ r. ⌜ r ≡ cipFits f ⌝ }
 {
-    (f.sid < 64) & (f.fraction_number < 4) & (f.qpc < 8) & (f.fmt < 64)
+    (f.sid < 64) & (f.fraction_number < 4) & (f.qpc == 0) & (f.fmt < 64)
 }
 
 fn fits(given: Given) -> bool

@@ -30,6 +30,7 @@ pub struct CipFields {
     pub sid: u8,
     pub dbs: u8,
     pub fraction_number: u8,
+    // 0: a writer takes no other
     pub qpc: u8,
     pub sph: bool,
     pub fmt: u8,

@@ -61,7 +61,7 @@ fn with_cip(cip: CipFields) -> Given {
     }
 }
 
-// Every field at its largest value, but for the bit that would make the source a group address.
+// Every field at its largest value, which is 0 for QPC, but for the bit that would make the source a group address.
 fn largest() -> Given {
     Given {
         ethernet: EthernetFields {
@@ -87,7 +87,7 @@ fn largest() -> Given {
             sid: 63,
             dbs: 255,
             fraction_number: 3,
-            qpc: 7,
+            qpc: 0,
             sph: true,
             fmt: 63,
             fdf: 255,
@@ -206,7 +206,7 @@ fn stream_edges() {
     stream_edge(b"sy 15", sy);
 }
 
-// The same of the CIP header; DBS is with the payloads.
+// The same of the CIP header; DBS is with the payloads, and QPC with the refusals.
 fn cip_edges() {
     let mut sid = lowest_cip();
     sid.sid = 63;
@@ -214,9 +214,6 @@ fn cip_edges() {
     let mut fraction = lowest_cip();
     fraction.fraction_number = 3;
     cip_edge(b"fn 3", fraction);
-    let mut qpc = lowest_cip();
-    qpc.qpc = 7;
-    cip_edge(b"qpc 7", qpc);
     let mut sph = lowest_cip();
     sph.sph = true;
     cip_edge(b"sph", sph);
@@ -283,12 +280,28 @@ fn wide_cip_fields() {
     let mut fraction = lowest_cip();
     fraction.fraction_number = 4;
     cip_edge(b"fn 4", fraction);
-    let mut qpc = lowest_cip();
-    qpc.qpc = 8;
-    cip_edge(b"qpc 8", qpc);
     let mut fmt = lowest_cip();
     fmt.fmt = 64;
     cip_edge(b"fmt 64", fmt);
+}
+
+fn qpc_edge(name: &[u8], qpc: u8) {
+    let mut cip = lowest_cip();
+    cip.qpc = qpc;
+    cip_edge(name, cip);
+}
+
+// 32 too: QPC is 0 (request #105).
+fn qpc_edges() {
+    qpc_edge(b"qpc 1", 1);
+    qpc_edge(b"qpc 2", 2);
+    qpc_edge(b"qpc 3", 3);
+    qpc_edge(b"qpc 4", 4);
+    qpc_edge(b"qpc 5", 5);
+    qpc_edge(b"qpc 6", 6);
+    qpc_edge(b"qpc 7", 7);
+    qpc_edge(b"qpc 8", 8);
+    qpc_edge(b"qpc 255", 255);
 }
 
 // 33, 34 and 35 on both sides of their edges.
@@ -346,6 +359,7 @@ fn main() {
     wide_ethernet_fields();
     wide_stream_fields();
     wide_cip_fields();
+    qpc_edges();
     lengths();
     two_apply();
     one_sender();

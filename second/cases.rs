@@ -1,0 +1,152 @@
+//! Says which cases of a rule the frames of captures are.
+//!
+//! `second_cases FILE..` goes through each capture named as `second_list` does. For
+//! each frame it writes a line for each case that the frame is, such as
+//! `sph fn=2 start last` (`starts.rs` says which there are) or `qpc=3 alone` (`qpc.rs`
+//! does). A listing shows none of this, and `compare.sh` has to know that each came
+//! up.
+//!
+//! This file is a root beside `list.rs`, over rooms that stand there too; from the
+//! bottom: wire, refusal, cip, frame, presentation, stream, table, capture, outcome,
+//! reading, starts, qpc.
+//!
+//! Build: `build.sh OUTDIR`.
+
+mod capture;
+mod cip;
+mod frame;
+mod outcome;
+#[allow(dead_code)] // no time's kind is printed
+mod presentation;
+mod qpc;
+mod reading;
+mod refusal;
+#[cfg(test)]
+mod samples;
+mod starts;
+mod stream;
+mod table;
+mod wire;
+
+use outcome::carry_out;
+use qpc::qpc_cases;
+use reading::{read_records, Failure, BUFFER};
+use starts::start_cases;
+use std::fs::File;
+use std::io::{self, BufWriter, Read, Write};
+use std::process::ExitCode;
+use table::StreamTable;
+
+/// Writes the lines of one capture.
+fn write_cases(input: &mut impl Read, out: &mut impl Write, buffer: &mut [u8]) -> io::Result<()> {
+    let mut table = StreamTable::new();
+    let mut heedless = StreamTable::new();
+    let done = read_records(input, buffer, |record| {
+        let outcome = carry_out(&mut table, record);
+        let cases = [start_cases(&outcome), qpc_cases(&mut heedless, record, &outcome)];
+        cases.concat().iter().try_for_each(|case| writeln!(out, "{case}"))
+    });
+    match done {
+        Ok(_) => Ok(()),
+        Err(Failure::Read(error) | Failure::Write(error)) => Err(error),
+    }
+}
+
+/// Writes the lines of each capture named.
+fn write_all_cases() -> io::Result<()> {
+    let mut buffer = vec![0; BUFFER];
+    let mut out = BufWriter::new(io::stdout().lock());
+    for name in std::env::args_os().skip(1) {
+        write_cases(&mut File::open(name)?, &mut out, &mut buffer)?;
+    }
+    out.flush()
+}
+
+fn main() -> ExitCode {
+    match write_all_cases() {
+        Ok(()) => ExitCode::SUCCESS,
+        Err(error) => {
+            eprintln!("second_cases: {error}");
+            ExitCode::FAILURE
+        }
+    }
+}
+
+#[cfg(test)]
+mod tests {
+    use super::*;
+    use crate::samples::{
+        admit_record, frame_record, of_length, record, remove_record, sound, with,
+    };
+
+    /// The lines of a capture of these records, on one line.
+    fn said(records: &[Vec<u8>]) -> String {
+        let mut out = Vec::new();
+        write_cases(&mut &records.concat()[..], &mut out, &mut vec![0; BUFFER]).unwrap();
+        String::from_utf8(out).unwrap().lines().collect::<Vec<_>>().join(", ")
+    }
+
+    #[test]
+    fn only_frames_that_are_listed_with_sph_1() {
+        let frame = |id| with(with(sound(id, &[0; 8]), 44, 0x44), 45, 7);
+        let capture = [
+            frame_record(0, &frame(1)),
+            admit_record(1),
+            frame_record(0, &frame(1)),
+            frame_record(0, &frame(2)),
+            frame_record(0, &with(frame(1), 44, 0x40)),
+            frame_record(0, &with(frame(1), 43, 3)),
+            frame_record(0, &with(frame(1), 44, 0xC4)),
+        ];
+        assert_eq!(said(&capture), "sph fn=1 start last, sph fn=3 start last");
+    }
+
+    #[test]
+    fn what_is_wrong_beside_a_qpc() {
+        let with_qpc = |qpc: u8| with(sound(1, &[0; 8]), 44, qpc << 3);
+        for (frame, case) in [
+            (with_qpc(1), "qpc=1 alone"),
+            (with_qpc(2), "qpc=2 alone"),
+            (with_qpc(4), "qpc=4 alone"),
+            (with_qpc(7), "qpc=7 alone"),
+            ([with_qpc(3), vec![0; 1500]].concat(), "qpc with 2"),
+            (with(with_qpc(3), 12, 0), "qpc with 3"),
+            (with(with_qpc(3), 40, 0), "qpc with 12"),
+            (of_length(with_qpc(3), 7), "qpc with 13"),
+            (with(with_qpc(3), 43, 3), "qpc with 14"),
+            (with(with_qpc(3), 29, 2), "qpc with 15"),
+            // The bits around QPC, and a frame that ends before it.
+            (with(with_qpc(0), 44, 0xC3), ""),
+            (of_length(with_qpc(3), 2)[..44].to_vec(), ""),
+        ] {
+            assert_eq!(said(&[admit_record(1), frame_record(0, &frame)]), case);
+        }
+        // No frame, though its bytes would be one with a QPC.
+        let no_frame = record(2, &frame_record(0, &with_qpc(3))[4..]);
+        assert_eq!(said(&[no_frame]), "");
+    }
+
+    #[test]
+    fn where_a_qpc_would_show() {
+        let frame = |sequence, dbc| with(with(sound(1, &[0; 8]), 20, sequence), 45, dbc);
+        let then = |refused: &[u8], after: &[Vec<u8>]| {
+            let before = [admit_record(1), frame_record(0, &frame(1, 0)), frame_record(0, refused)];
+            said(&[&before, after].concat())
+        };
+        let refused = with(frame(2, 2), 44, 0x18);
+        let shows = "qpc=3 alone, qpc shows in seq, qpc shows in dbc";
+        // The sender goes on, or sends the frame anew.
+        let next = [frame_record(0, &frame(3, 4))];
+        let anew = [frame_record(0, &frame(2, 2))];
+        assert_eq!(then(&refused, &next), shows);
+        assert_eq!(then(&refused, &anew), shows);
+        let fn_1 = with(refused.clone(), 44, 0x58);
+        assert_eq!(then(&fn_1, &anew), format!("{shows}, qpc shows in fmt"));
+        let mr = with(refused.clone(), 19, 0x89);
+        assert_eq!(then(&mr, &anew), format!("{shows}, qpc shows in mr"));
+        // Nothing of it is left, or it would be refused with QPC 0 too.
+        let readmitted = [remove_record(1), admit_record(1), frame_record(0, &frame(9, 9))];
+        assert_eq!(then(&refused, &readmitted), "qpc=3 alone");
+        assert_eq!(then(&with(refused, 43, 3), &next), "qpc with 14");
+    }
+}
