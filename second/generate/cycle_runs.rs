@@ -1,7 +1,7 @@
 //! Questions about cycle time for a long comparison.
 
 use crate::chance::Chance;
-use crate::damage::{spoil, spoiled, FIELD_CHECKS};
+use crate::damage::{spoil, FIELD_CHECKS};
 use crate::frames::Frame;
 use crate::questions::{cycle_time_of, judgement_of, nanosecond_of, Question, LONGEST_FRAME};
 use crate::ticks::{first_nanosecond, syt, CYCLE_TICKS, SECOND, SECOND_TICKS};
@@ -182,8 +182,9 @@ fn damaged(chance: &mut Chance, frame: &mut Frame) -> Vec<u8> {
             frame.bytes()
         }
         _ => {
-            let number = chance.pick(&[1, 3, 4, 5, 6, 7, 8, 9, 10, 11, 12, 13, 16, 14]);
-            spoiled(chance, frame, number)
+            let number = chance.pick(FIELD_CHECKS);
+            spoil(chance, frame, number);
+            frame.bytes()
         }
     }
 }
