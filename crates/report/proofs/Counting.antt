@@ -9,8 +9,7 @@ use lib.ListN.{length, length-append}
 use borrow.Author.Tests.{ltb-true, ltb-false}
 use Rattle.presentation.specs.declared.Kind.the-variants.{None, Cut, Outside, Late, Ahead}
 use Rattle.tally.specs.declared.Kinds.{Kinds}
-use Rattle.tally.specs.Tally.{raised, kindsAfter}
-use Rattle.tally.proofs.Numbered.{raisedIf, by-number}
+use Rattle.tally.specs.Tally.{raised, raisedIf, kindsAfter}
 use Rattle.stream.specs.declared.Counts.{Counts}
 use Rattle.stream.specs.declared.Record.{Record}
 use Rattle.stream.specs.Records.{bump}
@@ -75,11 +74,11 @@ kind-more p xs x c e = ap (raisedIf (p x)) e ∙ go (p x) ∙ ap capped64 (sym (
     go false = omega arith
 
 pub kinds-more : (xs : List ListedFrame) (x : ListedFrame) (k : Kinds) → k ≡ kindsOf xs → kindsAfter (x .timing .kind) k ≡ kindsOf (xs ++ (x ∷ []))
-unfolding kindsOf
+unfolding kindsOf kindsAfter
 kinds-more xs x k e =
     let none = kind-more (isKind None) xs x _ (ap (λ (k : Kinds). k .none) e) in
     let cut = kind-more (isKind Cut) xs x _ (ap (λ (k : Kinds). k .cut) e) in
     let outside = kind-more (isKind Outside) xs x _ (ap (λ (k : Kinds). k .outside) e) in
     let late = kind-more (isKind Late) xs x _ (ap (λ (k : Kinds). k .late) e) in
     let ahead = kind-more (isKind Ahead) xs x _ (ap (λ (k : Kinds). k .ahead) e) in
-    by-number (x .timing .kind) k ∙ (λ i. record { none = none i; cut = cut i; outside = outside i; late = late i; ahead = ahead i })
+    λ i. record { none = none i; cut = cut i; outside = outside i; late = late i; ahead = ahead i }

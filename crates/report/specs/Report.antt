@@ -11,7 +11,7 @@ use Rattle.presentation.specs.declared.Kind.{Kind}
 use Rattle.presentation.specs.declared.Kind.the-variants.{None, Cut, Outside, Late, Ahead}
 use Rattle.presentation.specs.declared.Timing.{Timing}
 use Rattle.tally.specs.declared.Kinds.{Kinds}
-use Rattle.tally.specs.Tally.{kindNumber, isTimed, mostSummed}
+use Rattle.tally.specs.Tally.{sameKind, isTimed, mostSummed}
 use Rattle.stream.specs.declared.Flags.{Flags}
 use Rattle.stream.specs.declared.Counts.{Counts}
 use Rattle.table.specs.Table.{Table}
@@ -69,7 +69,7 @@ countsOf xs =
 -- ---- Kinds
 
 abbrev pub isKind : Kind → ListedFrame → Bool
-isKind kind x = eqb (kindNumber (x .timing .kind)) (kindNumber kind)
+isKind kind x = sameKind (x .timing .kind) kind
 
 unfoldable pub kindsOf : List ListedFrame → Kinds
 kindsOf xs =

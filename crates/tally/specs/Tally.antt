@@ -1,7 +1,7 @@
 -- What a stream's presentation times come to, one accepted frame after the other (request #104).
 use Prim.Native.Nat.{ℕ, _+_, _-_, _*_, _%_, _^_, min}
 use mathlib.Core.Bool.{Bool, true, false, cond}
-use lib.Dec.{ltb}
+use lib.Dec.{eqb, ltb}
 use lib.IntN.{ℤ, pos, negsuc, _-ℤ_}
 use Rattle.presentation.specs.declared.Kind.{Kind}
 use Rattle.presentation.specs.declared.Kind.the-variants.{None, Cut, Outside, Late, Ahead}
@@ -27,6 +27,9 @@ noTally = record { kinds = noKinds; sums = noSums }
 unfoldable pub raised : ℕ → ℕ
 raised n = cond (ltb n 18_446_744_073_709_551_615) (n + 1) n
 
+abbrev pub raisedIf : Bool → ℕ → ℕ
+raisedIf wanted n = cond wanted (raised n) n
+
 -- the kinds by number, to tell them apart
 abbrev pub kindNumber : Kind → ℕ
 kindNumber None = 0
@@ -35,12 +38,19 @@ kindNumber Outside = 2
 kindNumber Late = 3
 kindNumber Ahead = 4
 
+abbrev pub sameKind : Kind → Kind → Bool
+sameKind a b = eqb (kindNumber a) (kindNumber b)
+
+-- the count of the frame's own kind goes up, and no other
 unfoldable pub kindsAfter : Kind → Kinds → Kinds
-kindsAfter None k = record { none = raised (k .none); cut = k .cut; outside = k .outside; late = k .late; ahead = k .ahead }
-kindsAfter Cut k = record { none = k .none; cut = raised (k .cut); outside = k .outside; late = k .late; ahead = k .ahead }
-kindsAfter Outside k = record { none = k .none; cut = k .cut; outside = raised (k .outside); late = k .late; ahead = k .ahead }
-kindsAfter Late k = record { none = k .none; cut = k .cut; outside = k .outside; late = raised (k .late); ahead = k .ahead }
-kindsAfter Ahead k = record { none = k .none; cut = k .cut; outside = k .outside; late = k .late; ahead = raised (k .ahead) }
+kindsAfter kind k =
+    record {
+      none = raisedIf (sameKind kind None) (k .none);
+      cut = raisedIf (sameKind kind Cut) (k .cut);
+      outside = raisedIf (sameKind kind Outside) (k .outside);
+      late = raisedIf (sameKind kind Late) (k .late);
+      ahead = raisedIf (sameKind kind Ahead) (k .ahead);
+    }
 
 -- ---- Sums, over those late or ahead
 

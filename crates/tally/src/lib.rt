@@ -3,8 +3,7 @@
 use presentation::Kind;
 use presentation::Timing;
 ghost use mathlib.Core.Path.{_≡_};
-ghost use mathlib.Core.Bool.{cond};
-ghost use Rattle.tally.specs.Tally.{noTally, raised, kindNumber, kindsAfter, isTimed, aboveLowest, greater, sumsAfter, counted};
+ghost use Rattle.tally.specs.Tally.{noTally, raisedIf, kindNumber, kindsAfter, isTimed, aboveLowest, greater, sumsAfter, counted};
 
 // How many frames had each kind. A count stays at its largest value once there.
 pub struct Kinds {
@@ -72,7 +71,7 @@ pub fn none_yet() -> Tally
 
 // A count, one higher where it is wanted and there is room.
 fn raise(wanted: bool, count: u64) -> u64
-    ensures { λ r. ⌜ r ≡ cond wanted (raised count) count ⌝ }
+    ensures { λ r. ⌜ r ≡ raisedIf wanted count ⌝ }
 {
     if wanted {
         if count < u64::MAX {

@@ -1,30 +1,25 @@
-use mathlib.Core.Path.{sym, ap, _∙_}
-use Prim.Native.Nat.{ℕ}
+use mathlib.Core.Path.{sym, _∙_}
+use borrow.Author.Tests.{ne-eqb}
 use borrow.Author.Needs.{needs}
-use Rattle.tally.proofs.Numbered.{raisedAt, by-number, untimed-by-number}
+use Rattle.tally.specs.Tally.{kindsAfter}
 use Rattle.tally.proofs.count_kind.Statement.{statement}
 use Rattle.tally.proofs.count_kind.Tie as tie
 
 returns : tie.Need-returns
-returns c =
-    let numbered = c .before .before in
-    let a = numbered .before .args in
-    rw (c .raise .ensures) (sym (by-number (a .kind) (a .kinds) ∙ ap (λ (n : ℕ). raisedAt n (a .kinds)) (sym (numbered .number-of .ensures) ∙ c .before .if1 .taken)))
+unfolding kindsAfter
+returns c = rw (c .raise .ensures, sym (c .before .before .number-of .ensures) ∙ c .before .if1 .taken)
 
 returns-2 : tie.Need-returns-2
-returns-2 c =
-    let numbered = c .before .before .before in
-    let a = numbered .before .args in
-    rw (c .raise2 .ensures) (sym (by-number (a .kind) (a .kinds) ∙ ap (λ (n : ℕ). raisedAt n (a .kinds)) (sym (numbered .number-of .ensures) ∙ c .before .if2 .taken)))
+unfolding kindsAfter
+returns-2 c = rw (c .raise2 .ensures, sym (c .before .before .before .number-of .ensures) ∙ c .before .if2 .taken)
 
+-- the number is neither that of late nor that of ahead
 returns-3 : tie.Need-returns-3
+unfolding kindsAfter
 returns-3 c =
     let untimed = c .before .before .before in
-    let numbered = untimed .before .before in
-    let a = numbered .before .args in
-    let n = numbered .number-of .result in
-    rw (c .raise5 .ensures, c .before .raise4 .ensures, c .before .before .raise3 .ensures)
-    (sym (by-number (a .kind) (a .kinds) ∙ ap (λ (n : ℕ). raisedAt n (a .kinds)) (sym (numbered .number-of .ensures)) ∙ untimed-by-number n (a .kinds) (untimed .before .if1 .left) (untimed .if2 .left)))
+    let n = untimed .before .before .number-of .result in
+    rw (c .raise5 .ensures, c .before .raise4 .ensures, c .before .before .raise3 .ensures, ← untimed .before .before .number-of .ensures, ne-eqb n 3 (untimed .before .if1 .left), ne-eqb n 4 (untimed .if2 .left))
 
 pub count-kind-spec : {M : Type 1} → statement M
 count-kind-spec =
