@@ -2,19 +2,20 @@
 //!
 //! `second_cases FILE..` goes through each capture named as `second_list` does. For
 //! each frame it writes a line for each case that the frame is, such as
-//! `sph fn=2 start last` (`starts.rs` says which there are) or `qpc=3 alone` (`qpc.rs`
-//! does). A listing shows none of this, and `compare.sh` has to know that each came
-//! up.
+//! `sph fn=2 start last` (`starts.rs` says which there are), `qpc=3 alone` (`qpc.rs`
+//! does) or `sph=0 half a wrap, L + d below 0` (`half_wrap.rs` does). Neither a listing
+//! nor a report shows any of this, and the comparisons have to know that each came up.
 //!
 //! This file is a root beside `list.rs`, over rooms that stand there too; from the
 //! bottom: wire, refusal, cip, frame, presentation, stream, table, capture, outcome,
-//! reading, starts, qpc.
+//! reading, starts, qpc, half_wrap.
 //!
 //! Build: `build.sh OUTDIR`.
 
 mod capture;
 mod cip;
 mod frame;
+mod half_wrap;
 mod outcome;
 #[allow(dead_code)] // no time's kind is printed
 mod presentation;
@@ -28,6 +29,7 @@ mod stream;
 mod table;
 mod wire;
 
+use half_wrap::half_wrap_cases;
 use outcome::carry_out;
 use qpc::qpc_cases;
 use reading::{read_records, Failure, BUFFER};
@@ -43,7 +45,11 @@ fn write_cases(input: &mut impl Read, out: &mut impl Write, buffer: &mut [u8]) -
     let mut heedless = StreamTable::new();
     let done = read_records(input, buffer, |record| {
         let outcome = carry_out(&mut table, record);
-        let cases = [start_cases(&outcome), qpc_cases(&mut heedless, record, &outcome)];
+        let cases = [
+            start_cases(&outcome),
+            qpc_cases(&mut heedless, record, &outcome),
+            half_wrap_cases(record, &outcome),
+        ];
         cases.concat().iter().try_for_each(|case| writeln!(out, "{case}"))
     });
     match done {
@@ -76,7 +82,7 @@ fn main() -> ExitCode {
 mod tests {
     use super::*;
     use crate::samples::{
-        admit_record, frame_record, of_length, record, remove_record, sound, with,
+        admit_record, frame_record, of_length, record, remove_record, sound, stamped, with,
     };
 
     /// The lines of a capture of these records, on one line.
@@ -124,6 +130,24 @@ mod tests {
         // No frame, though its bytes would be one with a QPC.
         let no_frame = record(2, &frame_record(0, &with_qpc(3))[4..]);
         assert_eq!(said(&[no_frame]), "");
+    }
+
+    #[test]
+    fn half_a_wrap_by_either_stamp() {
+        let stamp: u32 = 1 << 31;
+        let by_timestamp = stamped(sound(1, &[]), stamp);
+        let by_payload = with(sound(1, &stamp.to_be_bytes()), 44, 4);
+        let lines = |arrival, frame: &[u8]| said(&[admit_record(1), frame_record(arrival, frame)]);
+        assert_eq!(lines(0, &by_timestamp), "sph=0 half a wrap, L + d below 0");
+        assert_eq!(
+            lines(1 << 32, &by_payload),
+            "sph fn=0 start first, sph=1 half a wrap, L + d above 0"
+        );
+        assert_eq!(lines(1, &by_timestamp), "sph=0 d=2147483647, L + d above 0");
+        assert_eq!(lines(2, &by_timestamp), "");
+        // No stamp is read, and then a frame that is refused.
+        assert_eq!(lines(0, &with(by_timestamp.clone(), 19, 0x80)), "");
+        assert_eq!(lines(0, &with(by_timestamp, 29, 2)), "");
     }
 
     #[test]

@@ -7,9 +7,10 @@
 # standard input. Both programs list COUNT captures made from SEED, and their
 # listings must agree byte for byte; some captures also go to the first program
 # through a pipe in small pieces. Then it is shown how often each thing that a
-# listing can say came up, and each case of a rule that it doesn't show (starts.rs
-# and qpc.rs say which there are), and each that must come up has to. A capture that
-# differs is named by its number; it is made again by `generate DIR SEED COUNT`.
+# listing can say came up, and each case of a rule that it doesn't show (starts.rs,
+# qpc.rs and half_wrap.rs say which there are), and each that must come up has to. A
+# capture that differs is named by its number; it is made again by
+# `generate DIR SEED COUNT`.
 set -euo pipefail
 
 if (($# < 1 || $# > 3)); then
@@ -63,12 +64,13 @@ awk "$counting"'
         for (i = 1; i <= 6; i++) known("refused " more[i])
         split("seq=ok seq=break dbc=ok dbc=break fmt=ok fmt=change mr=ok mr=change", flags)
         for (i = 1; i <= 8; i++) known(flags[i])
-        split("none outside late ahead", kinds)
-        for (i = 1; i <= 4; i++) known("time=" kinds[i])
+        split("none outside late ahead unclear", kinds)
+        for (i = 1; i <= 5; i++) known("time=" kinds[i])
         known("time=outside below 0")
         known("time=outside past 64 bits")
-        split("-2147483648 -1 0 1 2147483647", offsets)
-        for (i = 1; i <= 5; i++) known("offset=" offsets[i])
+        split("-2147483648 -2147483647 -1 0 1 2147483647", offsets)
+        for (i = 1; i <= 6; i++) known("offset=" offsets[i])
+        half_wraps_known()
         known("admitted")
         known("removed")
         known("end records=0")
@@ -86,10 +88,14 @@ awk "$counting"'
         # cut is refused 14.
         forbidden("time=cut")
     }
+    # Half a wrap is unclear, and nothing else is (request #106).
+    function half_wrap_sound() {
+        return ($7 == "time=unclear") == ($8 == "offset=-2147483648")
+    }
     $2 == "refused" && NF == 3 { came("refused " $3); next }
     $2 == "admitted" && NF == 2 { came($2); next }
     $2 == "removed" && NF == 2 { came($2); next }
-    $2 == "frame" && NF == 8 {
+    $2 == "frame" && NF == 8 && half_wrap_sound() {
         for (i = 3; i <= 7; i++) came($i)
         # An offset of 0 that stands for none is no edge.
         if ($7 != "time=none" && $8 in count) came($8)

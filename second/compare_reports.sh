@@ -10,7 +10,8 @@
 # reported, of about 200 million bytes, in which a stream has more ahead or late
 # frames than are summed. The first program has to say what is wrong where it is given
 # no capture or two. Then it is shown how often each thing that a report can say came
-# up, and each that must come up has to. A capture that differs is named by its
+# up, and each case of half a wrap, which it doesn't show (half_wrap.rs says which there
+# are), and each that must come up has to. A capture that differs is named by its
 # number; it is made again by `generate DIR SEED COUNT`, or `generate --million FILE`.
 set -euo pipefail
 
@@ -78,6 +79,8 @@ agrees - <"$name" || differs "$name" "on standard input, as -"
 
 # --- What came up -----------------------------------------------------------
 
+# Cases are looked for in the captures of the seed only.
+"$work/second_cases" [0-9]*.cap | sed -n '/^sph=/p' >"$work/cases"
 covered=true
 awk -v million="$million" "$counting"'
     BEGIN {
@@ -89,13 +92,15 @@ awk -v million="$million" "$counting"'
         known("id 0")
         known("id 18446744073709551615")
         # The columns after the id, up to the kinds.
-        split("frames,sequence,block,format,mr,none,cut,outside,late,ahead", column, ",")
-        for (i = 1; i <= 10; i++) if (column[i] != "cut") known(column[i] " above 0")
+        split("frames,sequence,block,format,mr,none,cut,outside,late,ahead,unclear", column, ",")
+        for (i = 1; i <= 11; i++) if (column[i] != "cut") known(column[i] " above 0")
         known("none: no frame")
         known("none: frames of other kinds")
+        known("none: unclear frames")
+        known("unclear beside late or ahead")
         known("only late")
         known("only ahead")
-        known("smallest -2147483648")
+        known("smallest -2147483647")
         known("largest 2147483647")
         known("smallest below largest")
         known("sum below 0")
@@ -111,8 +116,11 @@ awk -v million="$million" "$counting"'
             known("million: 1000000, all summed")
             known("million: 999999, all summed")
         }
+        half_wraps_known()
         # A frame whose stamp would be cut is refused 14.
         forbidden("cut above 0")
+        # Half a wrap is unclear, and not summed (request #106).
+        forbidden("smallest -2147483648")
         forbidden("not summed above 0")
     }
     function below(id, other) {
@@ -128,24 +136,24 @@ awk -v million="$million" "$counting"'
     }
     # Answers whether a line is one of a report, with numbers that go together.
     function sound() {
-        if (NF != 16 || $7 + $8 + $9 + $10 + $11 != $2) return 0
+        if (NF != 17 || $7 + $8 + $9 + $10 + $11 + $12 != $2) return 0
         if ($10 + $11 == 0) return /^[0-9 ]+ none none none none 0$/
         if (!/^[0-9 ]+ -?[0-9]+ -?[0-9]+ -?[0-9]+ -?[0-9]+\/[0-9]+ [0-9]+$/) return 0
-        return $12 <= $13 && $15 == $14 "/" ($10 + $11 - $16)
+        return $13 <= $14 && $16 == $15 "/" ($10 + $11 - $17)
     }
     # Counts what a line says of offsets.
     function offsets_came(   summed) {
-        summed = $10 + $11 - $16
+        summed = $10 + $11 - $17
         if ($10 == 0 || $11 == 0) came($10 == 0 ? "only ahead" : "only late")
-        if ($12 == -2147483648) came("smallest -2147483648")
-        if ($13 == 2147483647) came("largest 2147483647")
-        if ($12 < $13) came("smallest below largest")
-        came("sum " ($14 < 0 ? "below 0" : $14 > 0 ? "above 0" : "0"))
-        if ($14 < -2147483648 || $14 > 4294967295) came("sum past 32 bits")
+        if ($13 <= -2147483647) came("smallest " $13)
+        if ($14 == 2147483647) came("largest 2147483647")
+        if ($13 < $14) came("smallest below largest")
+        came("sum " ($15 < 0 ? "below 0" : $15 > 0 ? "above 0" : "0"))
+        if ($15 < -2147483648 || $15 > 4294967295) came("sum past 32 bits")
         came(summed == 1 ? "mean over 1" : "mean over several")
-        if (common_factor($14 < 0 ? -$14 : $14, summed) > 1) came("mean that could be reduced")
-        if ($14 == 0 && summed > 1) came("mean 0 over several")
-        if ($16 > 0) came(capture == "million" ? "million: some not summed" : "not summed above 0")
+        if (common_factor($15 < 0 ? -$15 : $15, summed) > 1) came("mean that could be reduced")
+        if ($15 == 0 && summed > 1) came("mean 0 over several")
+        if ($17 > 0) came(capture == "million" ? "million: some not summed" : "not summed above 0")
         else if (summed >= 999999) came("million: " summed ", all summed")
     }
     function report_came() {
@@ -159,19 +167,21 @@ awk -v million="$million" "$counting"'
         streams = disordered = 0
         next
     }
+    /^sph=/ { came($0); next }
     !sound() { came("any other line"); next }
     {
         if (streams++ && below($1, last)) disordered = 1
         last = $1
         if ($1 == "0" || $1 == "18446744073709551615") came("id " $1)
-        for (i = 1; i <= 10; i++) if ($(i + 1) > 0) came(column[i] " above 0")
-        if ($12 != "none") offsets_came()
+        for (i = 1; i <= 11; i++) if ($(i + 1) > 0) came(column[i] " above 0")
+        if ($13 != "none") offsets_came()
         else came($2 == 0 ? "none: no frame" : "none: frames of other kinds")
+        if ($12 > 0) came($13 == "none" ? "none: unclear frames" : "unclear beside late or ahead")
     }
     END {
         report_came()
         exit !shown()
     }
-' "$reports" || covered=false
+' "$reports" "$work/cases" || covered=false
 
 conclude "$covered"

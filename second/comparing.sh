@@ -98,9 +98,9 @@ compare_piped() {
 # --- What came up -----------------------------------------------------------
 
 # Functions for awk that count what came up. `known` names a thing that has to come
-# up, `forbidden` one that may not, and `came` says that one did: any other line,
-# where it is neither. `shown` shows how often each came up, and answers whether that
-# is as it must be.
+# up, `half_wraps_known` all cases of half_wrap.rs, `forbidden` a thing that may not,
+# and `came` says that one did: any other line, where it is neither. `shown` shows how
+# often each came up, and answers whether that is as it must be.
 counting='
     function known(name) {
         order[++names] = name
@@ -110,6 +110,16 @@ counting='
         known(name)
         may_not[name] = 1
     }
+    function half_wraps_known(   sph, i, low, high) {
+        split("below 0,at 0,above 0", low, ",")
+        split("above 0,at the largest,past 64 bits", high, ",")
+        for (sph = 0; sph <= 1; sph++) {
+            for (i = 1; i <= 3; i++) known("sph=" sph " half a wrap, L + d " low[i])
+            known("sph=" sph " half a wrap, L at the largest")
+            for (i = 1; i <= 3; i++) known("sph=" sph " d=-2147483647, L + d " low[i])
+            for (i = 1; i <= 3; i++) known("sph=" sph " d=2147483647, L + d " high[i])
+        }
+    }
     function came(name) {
         count[name in count ? name : "any other line"]++
     }
@@ -118,7 +128,7 @@ counting='
         as_it_must_be = 1
         for (i = 1; i <= names; i++) {
             name = order[i]
-            printf "  %-28s %d%s\n", name, count[name], may_not[name] ? " (none may come up)" : ""
+            printf "  %-40s %d%s\n", name, count[name], may_not[name] ? " (none may come up)" : ""
             if (may_not[name] ? count[name] > 0 : count[name] == 0) {
                 print (may_not[name] ? "came up, and may not: " : "not covered: ") name
                 as_it_must_be = 0

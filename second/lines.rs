@@ -110,9 +110,10 @@ mod tests {
         push_refusal(&mut lines, 3, Refusal::RecordKind);
         push_outcome(&mut lines, 4, &received(none, TimeKind::None, 0));
         push_outcome(&mut lines, 5, &received(none, TimeKind::Cut, 0));
-        push_outcome(&mut lines, 6, &received(all, TimeKind::Outside, i32::MIN));
+        push_outcome(&mut lines, 6, &received(all, TimeKind::Outside, -i32::MAX));
         push_outcome(&mut lines, 7, &received(none, TimeKind::Late, -1));
         push_outcome(&mut lines, 8, &received(none, TimeKind::Ahead, i32::MAX));
+        push_outcome(&mut lines, 9, &received(none, TimeKind::Unclear, i32::MIN));
         push_end(&mut lines, u64::MAX);
         assert_eq!(
             String::from_utf8(lines).unwrap(),
@@ -122,9 +123,10 @@ mod tests {
             3 refused 43\n\
             4 frame seq=ok dbc=ok fmt=ok mr=ok time=none offset=0\n\
             5 frame seq=ok dbc=ok fmt=ok mr=ok time=cut offset=0\n\
-            6 frame seq=break dbc=break fmt=change mr=change time=outside offset=-2147483648\n\
+            6 frame seq=break dbc=break fmt=change mr=change time=outside offset=-2147483647\n\
             7 frame seq=ok dbc=ok fmt=ok mr=ok time=late offset=-1\n\
             8 frame seq=ok dbc=ok fmt=ok mr=ok time=ahead offset=2147483647\n\
+            9 frame seq=ok dbc=ok fmt=ok mr=ok time=unclear offset=-2147483648\n\
             end records=18446744073709551615\n"
         );
     }

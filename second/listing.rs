@@ -142,7 +142,7 @@ mod tests {
             1 admitted\n\
             2 frame seq=ok dbc=ok fmt=ok mr=ok time=ahead offset=0\n\
             3 frame seq=break dbc=break fmt=change mr=change time=late offset=-1\n\
-            4 frame seq=break dbc=ok fmt=ok mr=ok time=outside offset=-2147483648\n\
+            4 frame seq=break dbc=ok fmt=ok mr=ok time=unclear offset=-2147483648\n\
             end records=4\n"
         );
     }

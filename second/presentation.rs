@@ -16,6 +16,8 @@ pub enum TimeKind {
     Late,
     /// At the arrival or after it.
     Ahead,
+    /// As far before the arrival as after it (request #106).
+    Unclear,
 }
 
 impl TimeKind {
@@ -27,9 +29,13 @@ impl TimeKind {
             TimeKind::Outside => b"outside",
             TimeKind::Late => b"late",
             TimeKind::Ahead => b"ahead",
+            TimeKind::Unclear => b"unclear",
         }
     }
 }
+
+/// The offset of half a wrap: 2^31 nanoseconds before the arrival, or as many after it.
+const HALF_A_WRAP: i32 = i32::MIN;
 
 /// A frame's presentation time, judged on its arrival.
 #[allow(dead_code)] // a listing doesn't print the time
@@ -47,10 +53,14 @@ impl Presentation {
     }
 
     /// The presentation time that the 32-bit `stamp` stands for, being the one
-    /// nearest to `arrival` (in nanoseconds).
+    /// nearest to `arrival` (in nanoseconds). Half a wrap away two are equally near,
+    /// and neither is taken, whether it would be outside or not (request #106).
     fn of_stamp(stamp: u32, arrival: u64) -> Presentation {
         // The difference modulo 2^32, read as a signed number.
         let offset = stamp.wrapping_sub(arrival as u32) as i32;
+        if offset == HALF_A_WRAP {
+            return Presentation { kind: TimeKind::Unclear, offset, time: 0 };
+        }
         match arrival.checked_add_signed(i64::from(offset)) {
             None => Presentation { kind: TimeKind::Outside, offset, time: 0 },
             Some(time) if offset < 0 => Presentation { kind: TimeKind::Late, offset, time },
@@ -112,11 +122,54 @@ mod tests {
     #[test]
     fn other_times() {
         assert_eq!(time(2_147_483_647, 0), (TimeKind::Ahead, 2_147_483_647, 2_147_483_647));
-        assert_eq!(time(2_147_483_648, 0), (TimeKind::Outside, -2_147_483_648, 0));
+        assert_eq!(time(2_147_483_648, 0), (TimeKind::Unclear, -2_147_483_648, 0));
         assert_eq!(time(0, u64::MAX), (TimeKind::Outside, 1, 0));
         assert_eq!(time(u32::MAX, u64::MAX), (TimeKind::Ahead, 0, u64::MAX));
-        assert_eq!(time(0, 1 << 31), (TimeKind::Late, i32::MIN, 0));
-        assert_eq!(time(0, (1 << 31) - 1), (TimeKind::Late, -i32::MAX, 0));
+    }
+
+    /// The presentation times of a stamp `offset` from `arrival`, which is the AVTP
+    /// timestamp with SPH 0 and in the payload with SPH 1; both must be the same.
+    fn at_offset(offset: i32, arrival: u64) -> (TimeKind, i32, u64) {
+        let stamp = (arrival as u32).wrapping_add_signed(offset);
+        let in_payload = with(sound(1, &stamp.to_be_bytes()), 44, 4);
+        assert_eq!(of_bytes(&in_payload, arrival), time(stamp, arrival));
+        time(stamp, arrival)
+    }
+
+    #[test]
+    fn half_a_wrap_is_unclear() {
+        let d = -2_147_483_648;
+        for arrival in [
+            // L + d below 0.
+            0,
+            1,
+            2_147_483_647,
+            // L + d not below 0.
+            2_147_483_648,
+            2_147_483_649,
+            1 << 40,
+            u64::MAX - 1,
+            u64::MAX,
+        ] {
+            assert_eq!(at_offset(d, arrival), (TimeKind::Unclear, d, 0), "L {arrival}");
+        }
+    }
+
+    #[test]
+    fn one_to_either_side_of_half_a_wrap() {
+        let last = 18_446_744_071_562_067_968;
+        let d = -2_147_483_647;
+        assert_eq!(at_offset(d, 0), (TimeKind::Outside, d, 0));
+        assert_eq!(at_offset(d, 2_147_483_646), (TimeKind::Outside, d, 0));
+        assert_eq!(at_offset(d, 2_147_483_647), (TimeKind::Late, d, 0));
+        assert_eq!(at_offset(d, 2_147_483_648), (TimeKind::Late, d, 1));
+        assert_eq!(at_offset(d, u64::MAX), (TimeKind::Late, d, last));
+        let d = 2_147_483_647;
+        assert_eq!(at_offset(d, 0), (TimeKind::Ahead, d, 2_147_483_647));
+        assert_eq!(at_offset(d, 2_147_483_648), (TimeKind::Ahead, d, 4_294_967_295));
+        assert_eq!(at_offset(d, last), (TimeKind::Ahead, d, u64::MAX));
+        assert_eq!(at_offset(d, last + 1), (TimeKind::Outside, d, 0));
+        assert_eq!(at_offset(d, u64::MAX), (TimeKind::Outside, d, 0));
     }
 
     /// A frame with SPH 1, FN, DBC and DBS, whose block `i` opens with stamp 1000 + i.

@@ -1,5 +1,5 @@
 //! A stream's visit: what the presentation times of its frames add up to
-//! (request #104).
+//! (requests #104 and #106).
 
 use crate::presentation::{Presentation, TimeKind};
 
@@ -15,6 +15,7 @@ pub struct KindCounts {
     pub outside: u64,
     pub late: u64,
     pub ahead: u64,
+    pub unclear: u64,
 }
 
 /// What one offset or more come to. The mean is the sum over the count.
@@ -51,6 +52,7 @@ impl KindCounts {
             TimeKind::Outside => &mut self.outside,
             TimeKind::Late => &mut self.late,
             TimeKind::Ahead => &mut self.ahead,
+            TimeKind::Unclear => &mut self.unclear,
         }
     }
 }
@@ -94,8 +96,17 @@ impl Visit {
 mod tests {
     use super::*;
 
-    const KINDS: [TimeKind; 5] =
-        [TimeKind::None, TimeKind::Cut, TimeKind::Outside, TimeKind::Late, TimeKind::Ahead];
+    const KINDS: [TimeKind; 6] = [
+        TimeKind::None,
+        TimeKind::Cut,
+        TimeKind::Outside,
+        TimeKind::Late,
+        TimeKind::Ahead,
+        TimeKind::Unclear,
+    ];
+
+    /// The least offset of a late frame; half a wrap, one below it, is unclear.
+    const LEAST: i32 = -2_147_483_647;
 
     /// A presentation time; the time itself plays no part.
     fn time(kind: TimeKind, offset: i32) -> Presentation {
@@ -126,7 +137,8 @@ mod tests {
                 visit.add(&time(kind, 7));
             }
         }
-        assert_eq!(visit.kinds, KindCounts { none: 1, cut: 2, outside: 3, late: 4, ahead: 5 });
+        let kinds = KindCounts { none: 1, cut: 2, outside: 3, late: 4, ahead: 5, unclear: 6 };
+        assert_eq!(visit.kinds, kinds);
         let nine = Summary { smallest: 7, largest: 7, sum: 63, count: 9 };
         assert_eq!((visit.summary, visit.not_summed), (Some(nine), 0));
     }
@@ -134,12 +146,13 @@ mod tests {
     #[test]
     fn only_ahead_or_late_frames_are_summed() {
         let mut visit = Visit::default();
-        for kind in [TimeKind::None, TimeKind::Cut, TimeKind::Outside] {
+        for kind in [TimeKind::None, TimeKind::Cut, TimeKind::Outside, TimeKind::Unclear] {
             visit.add(&time(kind, i32::MIN));
         }
         assert_eq!((visit.summary, visit.not_summed), (None, 0));
         visit.add(&time(TimeKind::Late, -3));
         visit.add(&time(TimeKind::Outside, i32::MAX));
+        visit.add(&time(TimeKind::Unclear, i32::MIN));
         visit.add(&time(TimeKind::Ahead, 5));
         let two = Summary { smallest: -3, largest: 5, sum: 2, count: 2 };
         assert_eq!((visit.summary, visit.not_summed), (Some(two), 0));
@@ -147,14 +160,14 @@ mod tests {
 
     #[test]
     fn sums() {
-        let (least, greatest) = (i32::MIN, i32::MAX);
+        let (least, greatest) = (LEAST, i32::MAX);
         assert_eq!(summed(&[-10, -1, -5]), (-10, -1, -16, 3));
         assert_eq!(summed(&[0]), (0, 0, 0, 1));
         assert_eq!(summed(&[5, -5]), (-5, 5, 0, 2));
         assert_eq!(summed(&[4, 2]), (2, 4, 6, 2));
-        assert_eq!(summed(&[least; 3]), (least, least, -6_442_450_944, 3));
+        assert_eq!(summed(&[least; 3]), (least, least, -6_442_450_941, 3));
         assert_eq!(summed(&[greatest; 2]), (greatest, greatest, 4_294_967_294, 2));
-        assert_eq!(summed(&[greatest, least, 1]), (least, greatest, 0, 3));
+        assert_eq!(summed(&[greatest, least, 1]), (least, greatest, 1, 3));
     }
 
     #[test]
@@ -168,12 +181,15 @@ mod tests {
     #[test]
     fn none_after_the_millionth_is_summed() {
         let mut offsets = vec![-7; 1_000_000];
-        offsets.extend([i32::MAX, i32::MIN, 0]);
+        offsets.extend([i32::MAX, LEAST, 0]);
         assert_eq!(summed(&offsets), (-7, -7, -7_000_000, 1_000_000));
-        let visit = visit(&offsets);
+        let mut visit = visit(&offsets);
+        // An unclear one isn't among them.
+        visit.add(&time(TimeKind::Unclear, i32::MIN));
         assert_eq!(visit.not_summed, 3);
         // They are counted by kind all the same.
-        assert_eq!(visit.kinds, KindCounts { late: 1_000_001, ahead: 2, ..KindCounts::default() });
+        let kinds = KindCounts { late: 1_000_001, ahead: 2, unclear: 1, ..KindCounts::default() };
+        assert_eq!(visit.kinds, kinds);
     }
 
     #[test]

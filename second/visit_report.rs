@@ -1,4 +1,4 @@
-//! The visit report over a whole capture (request #104).
+//! The visit report over a whole capture (requests #104 and #106).
 
 use crate::outcome::{carry_out, Outcome};
 use crate::reading::{read_records, Failure};
@@ -50,10 +50,10 @@ impl Report {
 fn write_line(out: &mut impl Write, record: &StreamRecord, visit: &Visit) -> io::Result<()> {
     let Counts { frames, sequence_breaks, block_breaks, format_changes, mr_changes } =
         record.counts;
-    let KindCounts { none, cut, outside, late, ahead } = visit.kinds;
+    let KindCounts { none, cut, outside, late, ahead, unclear } = visit.kinds;
     write!(out, "{} {frames} ", record.id)?;
     write!(out, "{sequence_breaks} {block_breaks} {format_changes} {mr_changes} ")?;
-    write!(out, "{none} {cut} {outside} {late} {ahead} ")?;
+    write!(out, "{none} {cut} {outside} {late} {ahead} {unclear} ")?;
     match visit.summary {
         Some(Summary { smallest, largest, sum, count }) => {
             write!(out, "{smallest} {largest} {sum} {sum}/{count} ")?;
@@ -106,8 +106,11 @@ mod tests {
         frame_record(arrival, &stamped(sound(id, &[]), offset as u32))
     }
 
+    /// A line for stream 1 with no frame.
+    const NO_FRAME: &str = "1 0 0 0 0 0 0 0 0 0 0 0 none none none none 0\n";
+
     /// A line for stream 1 with one frame, ahead by 2000.
-    const ONE_FRAME: &str = "1 1 0 0 0 0 0 0 0 0 1 2000 2000 2000 2000/1 0\n";
+    const ONE_FRAME: &str = "1 1 0 0 0 0 0 0 0 0 1 0 2000 2000 2000 2000/1 0\n";
 
     #[test]
     fn example_of_document_01() {
@@ -119,7 +122,7 @@ mod tests {
         ];
         assert_eq!(reported(&capture), "");
         assert_eq!(reported(&capture[..3]), ONE_FRAME);
-        assert_eq!(reported(&capture[..1]), "1 0 0 0 0 0 0 0 0 0 0 none none none none 0\n");
+        assert_eq!(reported(&capture[..1]), NO_FRAME);
         assert_eq!(reported(&[]), "");
     }
 
@@ -141,15 +144,36 @@ mod tests {
             // And SPH 1, with no block for the stamp.
             frame_record(1000, &sph),
             // As at first, so that all four differ; its time is below 0.
-            frame_record(1000, &stamped(first, -1_i32 as u32)),
+            frame_record(1000, &stamped(first.clone(), -1_i32 as u32)),
+            // Half a wrap away, with the same sequence number.
+            frame_record(1000, &stamped(first, 2_147_484_648)),
         ];
-        assert_eq!(reported(&capture), "1 7 3 2 3 2 1 0 1 1 4 -20 5 0 0/5 0\n");
+        assert_eq!(reported(&capture), "1 8 4 2 3 2 1 0 1 1 4 1 -20 5 0 0/5 0\n");
+    }
+
+    #[test]
+    fn unclear_frames_have_no_part_in_the_sums() {
+        let of_offsets = |offsets: &[i32]| {
+            let frames = offsets.iter().map(|&offset| offset_record(1, offset));
+            reported(&[vec![admit_record(1)], frames.collect()].concat())
+        };
+        // The sequence number is the same in all frames.
+        let (half, least, greatest) = (i32::MIN, -2_147_483_647, 2_147_483_647);
+        assert_eq!(of_offsets(&[half; 3]), "1 3 2 0 0 0 0 0 0 0 0 3 none none none none 0\n");
+        assert_eq!(
+            of_offsets(&[half, least, half]),
+            "1 3 2 0 0 0 0 0 0 1 0 2 -2147483647 -2147483647 -2147483647 -2147483647/1 0\n"
+        );
+        assert_eq!(
+            of_offsets(&[greatest, half, least]),
+            "1 3 2 0 0 0 0 0 0 1 1 1 -2147483647 2147483647 0 0/2 0\n"
+        );
     }
 
     #[test]
     fn in_table_order() {
-        let none = "0 0 0 0 0 0 0 0 0 0 none none none none 0";
-        let one = "1 0 0 0 0 0 0 0 0 1 4 4 4 4/1 0";
+        let none = "0 0 0 0 0 0 0 0 0 0 0 none none none none 0";
+        let one = "1 0 0 0 0 0 0 0 0 1 0 4 4 4 4/1 0";
         let greatest = u64::MAX;
         let capture = [
             admit_record(7),
@@ -180,12 +204,13 @@ mod tests {
         let mut capture = vec![
             admit_record(1),
             offset_record(1, i32::MIN),
+            offset_record(1, i32::MIN + 1),
             offset_record(1, i32::MAX),
             remove_record(1),
             offset_record(1, 6),
             admit_record(1),
         ];
-        assert_eq!(reported(&capture), "1 0 0 0 0 0 0 0 0 0 0 none none none none 0\n");
+        assert_eq!(reported(&capture), NO_FRAME);
         capture.push(offset_record(1, 2000));
         assert_eq!(reported(&capture), ONE_FRAME);
     }

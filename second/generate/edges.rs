@@ -5,7 +5,7 @@ use crate::chance::Chance;
 use crate::damage::{spoil, spoiled, FIELD_CHECKS};
 use crate::frames::{block_size, Frame};
 use crate::senders::{stream_ids, Sender};
-use crate::times::{arrival, offset, stamp};
+use crate::times::{around_half_a_wrap, arrival, offset, stamp};
 
 /// Frames that one check refuses, or two, or none.
 pub fn refusals(chance: &mut Chance) -> Capture {
@@ -157,7 +157,11 @@ pub fn times(chance: &mut Chance) -> Capture {
     capture.admit(3);
     let mut frame = Frame::sound(chance, 3);
     for _ in 0..150 {
-        let at = arrival(chance);
+        let (at, offset) = if chance.one_in(4) {
+            around_half_a_wrap(chance)
+        } else {
+            (arrival(chance), offset(chance))
+        };
         frame.sequence = frame.sequence.wrapping_add(1);
         frame.tv = !chance.one_in(5);
         frame.tu = chance.flip();
@@ -170,7 +174,7 @@ pub fn times(chance: &mut Chance) -> Capture {
             // A stamp as if times were plain numbers.
             frame.stamp(at as u32);
         } else {
-            frame.stamp(stamp(at, offset(chance)));
+            frame.stamp(stamp(at, offset));
         }
         capture.frame(at, &frame.bytes());
         frame.dbc = frame.dbc.wrapping_add(blocks as u8);

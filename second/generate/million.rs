@@ -2,6 +2,7 @@
 
 use crate::captures::Capture;
 use crate::chance::Chance;
+use crate::times::{HALF_A_WRAP, LEAST_CLEAR};
 use crate::visits::Visitor;
 use std::fs::File;
 use std::io::{self, BufWriter, Write};
@@ -10,15 +11,18 @@ use std::path::Path;
 /// Ahead or late frames of a stream that a visit report sums.
 const MOST_SUMMED: u64 = 1_000_000;
 
-/// An arrival from which every offset leads to a time, as from the later ones here.
+/// An arrival from which every offset but half a wrap leads to a time, as from the
+/// later ones here.
 const FIRST_ARRIVAL: u64 = 1 << 40;
 
-/// Puts in, for each stream, a frame without a stamp, one whose time is below 0 and an
-/// admission that is refused; none of them counts towards the million.
+/// Puts in, for each stream, a frame without a stamp, one whose time is below 0, one
+/// half a wrap away and an admission that is refused; none of them counts towards the
+/// million.
 fn put_others(chance: &mut Chance, capture: &mut Capture, visitors: [&mut Visitor; 3]) {
     for visitor in visitors {
         visitor.send(chance, capture, (FIRST_ARRIVAL, None));
-        visitor.send(chance, capture, (0, Some(i32::MIN)));
+        visitor.send(chance, capture, (0, Some(LEAST_CLEAR)));
+        visitor.send(chance, capture, (FIRST_ARRIVAL, Some(HALF_A_WRAP)));
         capture.admit(visitor.id());
     }
 }
@@ -46,10 +50,10 @@ pub fn write_million(path: &Path) -> io::Result<()> {
         let near = chance.below(2_000_001) as i32 - 1_000_000;
         over.send(chance, &mut capture, (at, Some(near)));
         // The millionth is one that shows.
-        let far = if round < MOST_SUMMED { i32::MAX } else { i32::MIN };
+        let far = if round < MOST_SUMMED { i32::MAX } else { LEAST_CLEAR };
         exact.send(chance, &mut capture, (at, Some(far)));
         if round < MOST_SUMMED {
-            under.send(chance, &mut capture, (at, Some(i32::MIN)));
+            under.send(chance, &mut capture, (at, Some(LEAST_CLEAR)));
         }
         if round % (MOST_SUMMED / 4) == 0 {
             put_others(chance, &mut capture, [&mut over, &mut exact, &mut under]);
@@ -57,7 +61,7 @@ pub fn write_million(path: &Path) -> io::Result<()> {
         capture.write_out(&mut out)?;
     }
 
-    for offset in [i32::MAX, i32::MIN, i32::MIN, -1, 0, i32::MIN, i32::MAX] {
+    for offset in [i32::MAX, LEAST_CLEAR, LEAST_CLEAR, -1, 0, LEAST_CLEAR, i32::MAX] {
         over.send(chance, &mut capture, (FIRST_ARRIVAL, Some(offset)));
     }
     put_others(chance, &mut capture, [&mut over, &mut exact, &mut under]);

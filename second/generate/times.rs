@@ -2,6 +2,11 @@
 
 use crate::chance::Chance;
 
+/// The offset of half a wrap, which is unclear (request #106), and the least that is
+/// clear.
+pub const HALF_A_WRAP: i32 = i32::MIN;
+pub const LEAST_CLEAR: i32 = i32::MIN + 1;
+
 /// An arrival near one of the places where 32 or 64 bits wrap, or any.
 pub fn arrival(chance: &mut Chance) -> u64 {
     let near = match chance.below(8) {
@@ -36,6 +41,16 @@ pub fn offset(chance: &mut Chance) -> i32 {
         8 | 9 => chance.next() as i32,
         _ => 2_000_000 - chance.below(125_000) as i32,
     }
+}
+
+/// An arrival, and an offset of half a wrap or one to either side of it. The arrival is
+/// the first or the last of all, or one from which the offset leads to the first or the
+/// last time, or a neighbour of that.
+pub fn around_half_a_wrap(chance: &mut Chance) -> (u64, i32) {
+    let offset = chance.pick(&[HALF_A_WRAP, LEAST_CLEAR, i32::MAX]);
+    let end: u64 = if offset < 0 { 0 } else { u64::MAX };
+    let edge = end.wrapping_add_signed(-i64::from(offset));
+    (chance.pick(&[edge - 1, edge, edge + 1, 0, u64::MAX]), offset)
 }
 
 /// The stamp that lies `offset` from `arrival`.

@@ -4,7 +4,7 @@
 use crate::captures::{Capture, SMALL};
 use crate::chance::Chance;
 use crate::senders::{stream_ids, Sender};
-use crate::times::{arrival, offset, stamp};
+use crate::times::{arrival, offset, stamp, HALF_A_WRAP, LEAST_CLEAR};
 
 /// What the frames of a stream are like, from one admission to the next.
 #[derive(Clone, Copy)]
@@ -17,7 +17,9 @@ enum Habit {
     Outside,
     Late,
     Ahead,
-    /// Their offsets are the least or the greatest.
+    /// They are half a wrap away (request #106).
+    Unclear,
+    /// Their offsets are half a wrap, the least that is clear, or the greatest.
     AtTheEdges,
     /// Their offsets come to 0.
     Balanced,
@@ -27,10 +29,10 @@ enum Habit {
 /// When a frame arrives, and its offset if it has a stamp.
 type Times = (u64, Option<i32>);
 
-/// An arrival from which every offset leads to a time, often the first or the last
-/// of these.
+/// An arrival from which every offset but half a wrap leads to a time, often the first
+/// or the last of these.
 fn inside(chance: &mut Chance) -> u64 {
-    let (first, last) = (1 << 31, (1u64 << 31).wrapping_neg());
+    let (first, last) = ((1 << 31) - 1, (1u64 << 31).wrapping_neg());
     match chance.below(4) {
         0 => first,
         1 => last,
@@ -42,7 +44,7 @@ fn inside(chance: &mut Chance) -> u64 {
 fn outside(chance: &mut Chance) -> Times {
     let near = chance.below(1000) as u64;
     if chance.flip() {
-        (near, Some(chance.pick(&[i32::MIN, -1_000_000, -1000])))
+        (near, Some(chance.pick(&[LEAST_CLEAR, -1_000_000, -1000])))
     } else {
         (u64::MAX - near, Some(chance.pick(&[i32::MAX, 1_000_000, 1000])))
     }
@@ -56,7 +58,7 @@ fn balanced(chance: &mut Chance) -> Vec<i32> {
         0 => vec![0],
         1 => vec![some, -some],
         2 => vec![some, -some - other, other],
-        _ => vec![i32::MIN, 1, i32::MAX],
+        _ => vec![LEAST_CLEAR, i32::MAX],
     }
 }
 
@@ -68,6 +70,7 @@ impl Habit {
             Habit::Outside,
             Habit::Late,
             Habit::Ahead,
+            Habit::Unclear,
             Habit::AtTheEdges,
             Habit::Balanced,
             Habit::Any,
@@ -82,9 +85,10 @@ impl Habit {
             Habit::Unstamped => return vec![(arrival(chance), None)],
             Habit::Outside => return vec![outside(chance)],
             Habit::Any => return vec![(arrival(chance), (!chance.one_in(4)).then_some(any))],
-            Habit::Late => vec![any.min(-1 - any)],
+            Habit::Unclear => return vec![(arrival(chance), Some(HALF_A_WRAP))],
+            Habit::Late => vec![any.min(-1 - any).max(LEAST_CLEAR)],
             Habit::Ahead => vec![any.max(-1 - any)],
-            Habit::AtTheEdges => vec![chance.pick(&[i32::MIN, i32::MAX])],
+            Habit::AtTheEdges => vec![chance.pick(&[HALF_A_WRAP, LEAST_CLEAR, i32::MAX])],
             Habit::Balanced => balanced(chance),
         };
         offsets.into_iter().map(|offset| (inside(chance), Some(offset))).collect()

@@ -55,6 +55,7 @@ fn put_kind(out: &mut [u8], at: usize, kind: Kind) -> usize
         Kind::Outside => text::put(out, at, b" time=outside offset="),
         Kind::Late => text::put(out, at, b" time=late offset="),
         Kind::Ahead => text::put(out, at, b" time=ahead offset="),
+        Kind::Unclear => text::put(out, at, b" time=unclear offset="),
     }
 }
 

@@ -4,7 +4,7 @@ use frame::layout::Fields;
 use source_packet::Start;
 ghost use mathlib.Core.Path.{_≡_};
 ghost use Rattle.presentation.specs.Offset.{OneOffset, OffsetEdges};
-ghost use Rattle.presentation.specs.Presentation.{untimed, sourcePacketStamp, timingOf, timing, presentation};
+ghost use Rattle.presentation.specs.Presentation.{untimed, sourcePacketStamp, timingOf, timing, UnclearAtHalfWrap, presentation};
 
 pub enum Kind {
     None,
@@ -12,6 +12,7 @@ pub enum Kind {
     Outside,
     Late,
     Ahead,
+    Unclear,
 }
 
 pub struct Timing {
@@ -43,7 +44,8 @@ fn untimed(kind: Kind, offset: i64) -> Timing
     }
 }
 
-// Stamp T against the arrival time L. Whether T lies before or after L goes by their difference modulo a wrap, never by which number is the larger.
+// Stamp T against the arrival time L. Whether T lies before or after L goes by their difference modulo a wrap, never by which number is the
+// larger; half a wrap away it is unclear.
 pub fn reckon(arrival_time: u64, stamp: u32) -> Timing
     ensures { λ r. ⌜ r ≡ timing «arrival_time» stamp ⌝ }
 {
@@ -53,6 +55,10 @@ pub fn reckon(arrival_time: u64, stamp: u32) -> Timing
     let offset: i64 = distance as i64 - HALF_WRAP as i64;
     if distance < HALF_WRAP {
         let back = HALF_WRAP - distance;
+        // Half a wrap behind is half a wrap ahead too.
+        if back == HALF_WRAP {
+            return untimed(Kind::Unclear, offset);
+        }
         if arrival_time < back {
             return untimed(Kind::Outside, offset);
         }
@@ -124,4 +130,9 @@ fn one_offset()
 // What the offset is at zero, at both ends and at the wrap.
 fn offset_edges()
     ensures { λ _. ⌜ OffsetEdges ⌝ }
+{}
+
+// The kind is unclear half a wrap away, and nowhere else.
+fn unclear_at_half_wrap()
+    ensures { λ _. ⌜ UnclearAtHalfWrap ⌝ }
 {}

@@ -7,11 +7,11 @@ use lib.IntN.{ℤ, pos, negsuc, _+ℤ_}
 use lib.Signed.{leZ-yes}
 use Rattle.frame.specs.Layout.{fieldsOf}
 use Rattle.frame.specs.Reading.{payloadOf}
-use Rattle.presentation.specs.declared.Kind.the-variants.{Outside}
+use Rattle.presentation.specs.declared.Kind.the-variants.{Outside, Unclear}
 use Rattle.presentation.specs.declared.Stamp.{Stamp}
 use Rattle.presentation.specs.declared.Stamp.the-variants.{Absent, Short, Present}
 use Rattle.presentation.specs.Offset.{offset}
-use Rattle.presentation.specs.Presentation.{stampOf, untimed, side, timed, timing, timingOf, presentation}
+use Rattle.presentation.specs.Presentation.{stampOf, untimed, side, timed, isHalfWrap, timing, timingOf, presentation}
 use Rattle.presentation.proofs.Offset.{one-offset}
 use Rattle.stream.specs.declared.Record.{Record}
 use Rattle.stream.specs.Step.{stepped}
@@ -27,13 +27,17 @@ timed-range d r (pos n) = go (ltb 18_446_744_073_709_551_615 n)
     go true = r
     go false = r
 
+away-range : (d : ℤ) → InRange d → (sum : ℤ) (half : Bool) → InRange (cond half (untimed Unclear d) (timed d sum) .offset)
+away-range d r sum true = r
+away-range d r sum false = timed-range d r sum
+
 stamp-range : (L : ℕ) (stamp : Stamp) → InRange (timingOf L stamp .offset)
 unfolding timing
 stamp-range L Absent = record { low = leZ-yes tt; high = leZ-yes tt }
 stamp-range L Short = record { low = leZ-yes tt; high = leZ-yes tt }
 stamp-range L (Present T) =
     let is = one-offset L T .is in
-    timed-range (offset L T) (record { low = is .low; high = is .high }) (pos L +ℤ offset L T)
+    away-range (offset L T) (record { low = is .low; high = is .high }) (pos L +ℤ offset L T) (isHalfWrap (offset L T))
 
 pub answer-range : (r : Record) (frame : List ℕ) (L : ℕ) → InRange (answerOf r frame L .timing .offset)
 unfolding answerOf stepOf stepped presentation

@@ -19,6 +19,9 @@ five a b c d e = simp length-append
 pub five-columns : (a b c d e : ℕ) → length (column (decimal a)) ≤ 21 → length (column (decimal b)) ≤ 21 → length (column (decimal c)) ≤ 21 → length (column (decimal d)) ≤ 21 → length (column (decimal e)) ≤ 21 → length (column (decimal a) ++ column (decimal b) ++ column (decimal c) ++ column (decimal d) ++ column (decimal e)) ≤ 105
 five-columns a b c d e f g h i j = rw (five (column (decimal a)) (column (decimal b)) (column (decimal c)) (column (decimal d)) (column (decimal e))) (omega arith)
 
+pub column-more : (text : List ℕ) (n k : ℕ) → length text ≤ k → length (column (decimal n)) ≤ 21 → length (text ++ column (decimal n)) ≤ k + 21
+column-more text n k h i = rw (length-append text (column (decimal n))) (omega arith)
+
 pub mean-length : (total : ℤ) (count : ℕ) → length (signed total) ≤ 21 → length (column (decimal count)) ≤ 21 → length (column (meanText total count)) ≤ 43
 unfolding meanText
 mean-length total count f g = let l = length-append (decimal count) (ascii " ") in simp length-append (omega arith)
@@ -35,5 +38,5 @@ pub line-in-parts : (id : ℕ) (counts : Counts) (kinds : Kinds) (sums : List �
 unfolding streamLine
 line-in-parts id counts kinds sums unsummed = append-assoc (column (decimal id) ++ countsText counts ++ kindsText kinds ++ sums) (decimal unsummed) (ascii "\n")
 
-pub line-length : (id : ℕ) (counts : Counts) (kinds : Kinds) (sums : List ℕ) (unsummed : ℕ) → length (column (decimal id)) ≤ 21 → length (countsText counts) ≤ 105 → length (kindsText kinds) ≤ 105 → length sums ≤ 109 → length (decimal unsummed ++ ascii "\n") ≤ 21 → length (streamLine id counts kinds sums unsummed) ≤ 361
+pub line-length : (id : ℕ) (counts : Counts) (kinds : Kinds) (sums : List ℕ) (unsummed : ℕ) → length (column (decimal id)) ≤ 21 → length (countsText counts) ≤ 105 → length (kindsText kinds) ≤ 126 → length sums ≤ 109 → length (decimal unsummed ++ ascii "\n") ≤ 21 → length (streamLine id counts kinds sums unsummed) ≤ 382
 line-length id counts kinds sums unsummed f g h i j = rw (line-in-parts id counts kinds sums unsummed, five (column (decimal id)) (countsText counts) (kindsText kinds) sums (decimal unsummed ++ ascii "\n")) (omega arith)

@@ -1,4 +1,4 @@
--- The lines of a visit report (request #104). Columns are decimal, one space between, and a line ends in a line feed.
+-- The lines of a visit report (requests #104 and #106). Columns are decimal, one space between, and a line ends in a line feed.
 use Prim.Native.Nat.{ℕ}
 use mathlib.Core.Bool.{cond}
 use mathlib.Core.List.{List, [], _∷_, _++_}
@@ -25,7 +25,7 @@ countsText c =
     ++ column (decimal (c .«format_changes»))
     ++ column (decimal (c .«mr_changes»))
 
--- none, cut, outside, late, ahead
+-- none, cut, outside, late, ahead, unclear
 unfoldable pub kindsText : Kinds → List ℕ
 kindsText k =
     column (decimal (k .none))
@@ -33,6 +33,7 @@ kindsText k =
     ++ column (decimal (k .outside))
     ++ column (decimal (k .late))
     ++ column (decimal (k .ahead))
+    ++ column (decimal (k .unclear))
 
 -- the mean as the sum over its count, unreduced
 unfoldable pub meanText : ℤ → ℕ → List ℕ

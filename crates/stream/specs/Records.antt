@@ -63,7 +63,7 @@ ZeroRecords =
     let none : Counts = record { frames = 0; «sequence_breaks» = 0; «block_breaks» = 0; «format_changes» = 0; «mr_changes» = 0 } in
     let nothing : Tally =
     record {
-      kinds = record { none = 0; cut = 0; outside = 0; late = 0; ahead = 0 };
+      kinds = record { none = 0; cut = 0; outside = 0; late = 0; ahead = 0; unclear = 0 };
       sums = record { «sum_above» = 0; unsummed = 0; summed = 0; «largest_above» = 0; «smallest_below» = 0 };
     } in
     let blank : Bool → ℕ → Record =

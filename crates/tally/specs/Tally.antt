@@ -1,10 +1,10 @@
--- What a stream's presentation times come to, one accepted frame after the other (request #104).
+-- What a stream's presentation times come to, one accepted frame after the other (requests #104 and #106).
 use Prim.Native.Nat.{ℕ, _+_, _-_, _*_, _%_, _^_, min}
 use mathlib.Core.Bool.{Bool, true, false, cond}
 use lib.Dec.{eqb, ltb}
 use lib.IntN.{ℤ, pos, negsuc, _-ℤ_}
 use Rattle.presentation.specs.declared.Kind.{Kind}
-use Rattle.presentation.specs.declared.Kind.the-variants.{None, Cut, Outside, Late, Ahead}
+use Rattle.presentation.specs.declared.Kind.the-variants.{None, Cut, Outside, Late, Ahead, Unclear}
 use Rattle.presentation.specs.declared.Timing.{Timing}
 use Rattle.tally.specs.declared.Kinds.{Kinds}
 use Rattle.tally.specs.declared.Sums.{Sums}
@@ -13,7 +13,7 @@ use Rattle.tally.specs.declared.Tally.{Tally}
 -- ---- Nothing counted
 
 abbrev noKinds : Kinds
-noKinds = record { none = 0; cut = 0; outside = 0; late = 0; ahead = 0 }
+noKinds = record { none = 0; cut = 0; outside = 0; late = 0; ahead = 0; unclear = 0 }
 
 abbrev noSums : Sums
 noSums = record { «smallest_below» = 0; «largest_above» = 0; «sum_above» = 0; summed = 0; unsummed = 0 }
@@ -37,6 +37,7 @@ kindNumber Cut = 1
 kindNumber Outside = 2
 kindNumber Late = 3
 kindNumber Ahead = 4
+kindNumber Unclear = 5
 
 abbrev pub sameKind : Kind → Kind → Bool
 sameKind a b = eqb (kindNumber a) (kindNumber b)
@@ -50,6 +51,7 @@ kindsAfter kind k =
       outside = raisedIf (sameKind kind Outside) (k .outside);
       late = raisedIf (sameKind kind Late) (k .late);
       ahead = raisedIf (sameKind kind Ahead) (k .ahead);
+      unclear = raisedIf (sameKind kind Unclear) (k .unclear);
     }
 
 -- ---- Sums, over those late or ahead
@@ -60,6 +62,7 @@ isTimed Cut = false
 isTimed Outside = false
 isTimed Late = true
 isTimed Ahead = true
+isTimed Unclear = false
 
 -- how far an offset is above the lowest, −2,147,483,648; one past either end, which no frame has, counts as that end
 abbrev pub aboveLowest : ℤ → ℕ

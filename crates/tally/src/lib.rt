@@ -5,13 +5,15 @@ use presentation::Timing;
 ghost use mathlib.Core.Path.{_≡_};
 ghost use Rattle.tally.specs.Tally.{noTally, raisedIf, kindNumber, kindsAfter, isTimed, aboveLowest, greater, sumsAfter, counted};
 
-// How many frames had each kind. A count stays at its largest value once there.
+// How many frames had each kind. A count stays at its largest value once there. The two that most frames raise come first, the others side by
+// side behind them: the compiler moves these two at a time.
 pub struct Kinds {
+    pub late: u64,
+    pub ahead: u64,
     pub none: u64,
     pub cut: u64,
     pub outside: u64,
-    pub late: u64,
-    pub ahead: u64,
+    pub unclear: u64,
 }
 
 // Offsets lie between -2,147,483,648 and 2,147,483,647. Each is kept by how far it is from one of these ends, so that no number is below
@@ -47,6 +49,8 @@ const LATE: u8 = 3;
 
 const AHEAD: u8 = 4;
 
+const UNCLEAR: u8 = 5;
+
 // Nothing counted.
 pub fn none_yet() -> Tally
     ensures { λ r. ⌜ r ≡ noTally ⌝ }
@@ -58,6 +62,7 @@ pub fn none_yet() -> Tally
             outside: 0,
             late: 0,
             ahead: 0,
+            unclear: 0,
         },
         sums: Sums {
             smallest_below: 0,
@@ -90,10 +95,11 @@ fn number_of(kind: Kind) -> u8
         Kind::Outside => OUTSIDE,
         Kind::Late => LATE,
         Kind::Ahead => AHEAD,
+        Kind::Unclear => UNCLEAR,
     }
 }
 
-// Most frames are late or ahead. The others are counted together: the compiler then moves their counts two at a time.
+// Most frames are late or ahead. The others are counted together.
 fn count_kind(kinds: Kinds, kind: Kind) -> Kinds
     ensures { λ r. ⌜ r ≡ kindsAfter kind kinds ⌝ }
 {
@@ -110,6 +116,7 @@ fn count_kind(kinds: Kinds, kind: Kind) -> Kinds
     after.none = raise(number == NONE, kinds.none);
     after.cut = raise(number == CUT, kinds.cut);
     after.outside = raise(number == OUTSIDE, kinds.outside);
+    after.unclear = raise(number == UNCLEAR, kinds.unclear);
     after
 }
 
@@ -122,6 +129,7 @@ fn is_timed(kind: Kind) -> bool
         Kind::Outside => false,
         Kind::Late => true,
         Kind::Ahead => true,
+        Kind::Unclear => false,
     }
 }
 

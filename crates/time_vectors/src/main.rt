@@ -1,5 +1,5 @@
-// Presentation times at zero, at both ends of the offset, at the wraps of L and T, and at both ends of the arrival time: each is
-// reckoned and printed. Then which stamp is read, and from which block.
+// Presentation times at zero, at both ends of the offset, at the wraps of L and T, at both ends of the arrival time, and about half a wrap
+// away: each is reckoned and printed. Then which stamp is read, and from which block.
 use frame::layout::Avtp;
 use frame::layout::Cip;
 use frame::layout::Ethernet;
@@ -35,6 +35,7 @@ fn kind(k: Kind) {
         Kind::Outside => say(b" outside"),
         Kind::Late => say(b" late"),
         Kind::Ahead => say(b" ahead"),
+        Kind::Unclear => say(b" unclear"),
     }
 }
 
@@ -143,15 +144,25 @@ fn show_marked() {
 fn show_ends() {
     show(0, 0);
     show(0, 2_147_483_647);
-    show(0, 2_147_483_648);
     show(0, 4_294_967_295);
-    show(2_147_483_648, 0);
-    show(2_147_483_647, 4_294_967_295);
     show(u64::MAX, 0);
     show(u64::MAX, 4_294_967_295);
-    show(u64::MAX, 2_147_483_647);
     show(u64::MAX - 2_147_483_647, 4_294_967_295);
     show(u64::MAX - 2_147_483_646, 0);
+}
+
+// Half a wrap away, with L + d below 0, at 0 and above it; and a nanosecond less behind.
+fn show_half_wraps() {
+    show(0, 2_147_483_648);
+    show(2_147_483_647, 4_294_967_295);
+    show(2_147_483_648, 0);
+    show(2_147_483_649, 1);
+    show(u64::MAX, 2_147_483_647);
+    show(0, 2_147_483_649);
+    show(2_147_483_646, 4_294_967_295);
+    show(2_147_483_647, 0);
+    show(2_147_483_648, 1);
+    show(u64::MAX, 2_147_483_648);
 }
 
 fn show_stamps() {
@@ -194,6 +205,7 @@ fn show_starts(all: &[u8]) {
 fn main() {
     show_marked();
     show_ends();
+    show_half_wraps();
     show_stamps();
     // Each quadlet is L and its own number, so that the offset shown is the number of the quadlet that was read.
     show_starts(

@@ -1,10 +1,11 @@
--- `reckon` has an answer for each place where L + d can lie: below zero, before L, past the largest time, and from L on.
+-- `reckon` has an answer half a wrap away, and else for each place where L + d can lie: below zero, before L, past the largest time, and
+-- from L on.
 use mathlib.Core.Path.{refl}
 use native.Mathlib.Omega.{arith}
 use borrow.Author.Needs.{needs}
 use Rattle.wrapping.proofs.Offset.{fits}
 use Rattle.presentation.proofs.Offset.{half, distance}
-use Rattle.presentation.proofs.Reckoning.{before-zero, late, past-end, ahead, reckoned}
+use Rattle.presentation.proofs.Reckoning.{unclear, before-zero, late, past-end, ahead, reckoned}
 use Rattle.presentation.proofs.reckon.Statement.{statement}
 use Rattle.presentation.proofs.reckon.Tie as tie
 
@@ -36,31 +37,40 @@ returns : tie.Need-returns
 returns c =
     let L = c .before .before .before .args .arrival-time in
     let T = c .before .before .before .args .stamp in
-    reckoned L T (c .untimed .ensures) (before-zero L (distance L T) (omega arith))
-
-returns-2 : tie.Need-returns-2
-returns-2 c =
-    let L = c .before .before .args .arrival-time in
-    let T = c .before .before .args .stamp in
-    reckoned L T refl (late L (distance L T) (omega arith) (omega arith) (omega arith))
-
-sub-if3 : tie.Need-sub-if3
-sub-if3 c = search needs
+    reckoned L T (c .untimed .ensures) (unclear L (distance L T) (omega arith))
 
 untimed-requires-2 : tie.Need-untimed-requires-2
 untimed-requires-2 c κs = search needs
+
+returns-2 : tie.Need-returns-2
+returns-2 c =
+    let L = c .before .before .before .before .args .arrival-time in
+    let T = c .before .before .before .before .args .stamp in
+    reckoned L T (c .untimed2 .ensures) (before-zero L (distance L T) (omega arith) (omega arith))
 
 returns-3 : tie.Need-returns-3
 returns-3 c =
     let L = c .before .before .before .args .arrival-time in
     let T = c .before .before .before .args .stamp in
-    reckoned L T (c .untimed2 .ensures) (past-end L (distance L T) (omega arith) (omega arith) (omega arith))
+    reckoned L T refl (late L (distance L T) (omega arith) (omega arith) (omega arith) (omega arith))
+
+sub-if4 : tie.Need-sub-if4
+sub-if4 c = search needs
+
+untimed-requires-3 : tie.Need-untimed-requires-3
+untimed-requires-3 c κs = search needs
+
+returns-4 : tie.Need-returns-4
+returns-4 c =
+    let L = c .before .before .before .args .arrival-time in
+    let T = c .before .before .before .args .stamp in
+    reckoned L T (c .untimed3 .ensures) (past-end L (distance L T) (omega arith) (omega arith) (omega arith))
 
 add-time : tie.Need-add-time
 add-time c = search needs
 
-returns-4 : tie.Need-returns-4
-returns-4 c =
+returns-5 : tie.Need-returns-5
+returns-5 c =
     let L = c .before .before .args .arrival-time in
     let T = c .before .before .args .stamp in
     reckoned L T refl (ahead L (distance L T) (omega arith) (omega arith) (omega arith))
@@ -78,9 +88,11 @@ reckon-spec =
     sub-back
     untimed-requires
     returns
-    returns-2
-    sub-if3
     untimed-requires-2
+    returns-2
     returns-3
+    sub-if4
+    untimed-requires-3
+    returns-4
     add-time
-    returns-4)
+    returns-5)

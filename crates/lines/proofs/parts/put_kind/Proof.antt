@@ -19,10 +19,16 @@ returns-4 c = let text = c .before .before in rw (text .before .before .before .
 returns-5 : tie.Need-returns-5
 returns-5 c = let text = c .before .before in rw (text .before .before .before .enum-told5 .given .1) (alone (text .put5 .ensures))
 
+returns-6 : tie.Need-returns-6
+returns-6 c = let text = c .before .before in rw (text .before .before .before .enum-told6 .given .1) (alone (text .put6 .ensures))
+
 pub put-kind-spec : {M : Type 1} → statement M
 put-kind-spec =
     tie.close
     (tie.spec
+    (λ c. search needs)
+    (λ c. refl)
+    (λ c κs. tt)
     (λ c. search needs)
     (λ c. refl)
     (λ c κs. tt)
@@ -47,4 +53,6 @@ put-kind-spec =
     (λ c. returns-4 c .kept)
     returns-4
     (λ c. returns-5 c .kept)
-    returns-5)
+    returns-5
+    (λ c. returns-6 c .kept)
+    returns-6)
