@@ -40,7 +40,7 @@ use Rattle.table.specs.declared.Asked.{Asked}
 use Rattle.table.specs.declared.Target.{Target}
 use Rattle.table.specs.declared.Change.{Change}
 use Rattle.table.specs.Table.{at, receive, changeNumber, ChangedBy, Receives}
-use Rattle.table.specs.Private.{wants, find, readingFor, targetOf, changeOf, changedAt, Fits, served}
+use Rattle.table.specs.Private.{wants, find, readingFor, targetOf, changeOf, changedAt, Fits, ruleOf, served}
 use Rattle.table.proofs.Machine.{machR, machU, machF, machQ, machK, machX}
 use Rattle.walks.proofs.Calls.{is-said, some-said}
 use Rattle.walks.proofs.Lending.{Part, Alive, Mine, is-last, some-last}
@@ -70,6 +70,7 @@ use Rattle.table.proofs.read_for as read-for
 use Rattle.table.proofs.receive_alone as receive-alone
 use Rattle.table.proofs.decide as deciding
 use Rattle.table.proofs.store as store
+use Rattle.table.proofs.change_table as changing
 use Rattle.table.proofs.admit as admitting
 use Rattle.table.proofs.receive as receiving
 
@@ -274,6 +275,29 @@ module _ {M : Type 1} (𝓤 : URA M) (H : Heap 𝓤) (A : Atoms 𝓤) (mem : Mem
         pub changer-is : (v : Val) → ent 𝓤 (Changer .post to-changer v) (H .⇛ (ex 𝓤 (λ (c : Change). sep 𝓤 (mean 𝓤 H A (Alive 𝓤 κ q ⊛ ‵ (finally T.the-row γ (rule ys id .1)))) (fact 𝓤 (Answers ys id c × Is Y.the-row c (v ∷ []))))))
         changer-is v = some-last 𝓤 H A W Y.the-row T.the-row γ (rule ys id .1) v (Alive 𝓤 κ q) (List Record × (Unit {0} × Unit {0})) (λ z. z .0) (λ z. lasts admitting.ended (κ, tt) with-id z) (ChangedBy rule ys id)
             (λ z. qed W (‵ (lasts admitting.ended (κ, tt) with-id z) ∷ []) ∵ fsplit ! $ fsplit ! $ keep ! (0 ∷ []) $ done !) (Answers ys id) (λ c l e. (e .table, e .number))
+
+  abbrev pub ChangeTable : Contract 𝓤
+  ChangeTable = tripleOf 𝓤 H A changing.signature (changing.spec 𝓤 H A mem run)
+
+  module _ (κ : Lft) (q : Share) (b o : ℕ) (γ : GName) (ys : List Record) (id : ℕ) (k : Asked) where
+    abbrev ArgChange : Type 0
+    ArgChange = RefT (List Record) × (ℕ × (Asked × Unit {0}))
+
+    abbrev to-be-changed : ArgChange
+    to-be-changed = (x b o γ ys, (id, (k, tt)))
+
+    abbrev pub to-change-table : ChangeTable .Ghost
+    to-change-table = (((κ, tt), (q, tt), tt, to-be-changed, (sliceVal (b, o) (length ys) ∷ [], (vint w64 id ∷ [], (machK k ∷ [], tt)))), tt)
+
+    module _ (W : Given 𝓤 H A) where
+      pub goes-change-table : id < 2 ^ 64 → Is K.the-row k (machK k ∷ []) → ent 𝓤 (mean 𝓤 H A (Alive 𝓤 κ q ⊛ Mut κ b o γ ys)) (ChangeTable .pre to-change-table)
+      goes-change-table fits is =
+          qed W (Alive 𝓤 κ q ∷ Mut κ b o γ ys ∷ []) ∵ nothing ! $ owned ! K.the-row (Is K.the-row) (EL.makes K.the-type K′.the-plain 𝓤 H A) k _ is $ fjoin ! $ owned ! u64 (Is u64) (uint-makes 𝓤 H A W w64) id _ (refl, fits) $ fjoin ! $
+          move ! (2 ∷ 0 ∷ []) $ fjoin ! $ move ! (1 ∷ 0 ∷ []) $ join ! $ frame ! $ done !
+
+      pub change-table-is : (v : Val) → ent 𝓤 (ChangeTable .post to-change-table v) (H .⇛ (ex 𝓤 (λ (c : Change). sep 𝓤 (mean 𝓤 H A (Alive 𝓤 κ q ⊛ ‵ (finally T.the-row γ (ruleOf k ys id .1)))) (fact 𝓤 (Answers (ruleOf k) ys id c × Is Y.the-row c (v ∷ []))))))
+      change-table-is v = some-last 𝓤 H A W Y.the-row T.the-row γ (ruleOf k ys id .1) v (Alive 𝓤 κ q) (List Record × (Unit {0} × (Unit {0} × Unit {0}))) (λ z. z .0) (λ z. lasts changing.ended (κ, tt) to-be-changed z) (ChangedBy (ruleOf k) ys id)
+          (λ z. qed W (‵ (lasts changing.ended (κ, tt) to-be-changed z) ∷ []) ∵ fsplit ! $ fsplit ! $ keep ! (0 ∷ []) $ done !) (Answers (ruleOf k) ys id) (λ c l e. (e .table, e .number))
 
   abbrev pub Receive : Contract 𝓤
   Receive = tripleOf 𝓤 H A receiving.signature (receiving.spec 𝓤 H A mem run)

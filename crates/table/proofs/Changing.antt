@@ -14,17 +14,12 @@ use Rattle.table.specs.declared.Asked.the-variants.{Admission, Removal}
 use Rattle.table.specs.declared.Target.{Target}
 use Rattle.table.specs.declared.Target.the-variants.{Place, Refuse}
 use Rattle.table.specs.Table.{Table, admit, remove, changeNumber}
-use Rattle.table.specs.Private.{find, targetOf, changeOf, changedAt, Fits}
+use Rattle.table.specs.Private.{find, targetOf, changeOf, changedAt, Fits, ruleOf}
 use Rattle.table.proofs.Searched.{found-at, found-none, found-within}
 
 pub changed-length : (x : Target) (t : Table) → length (changedAt x t) ≡ length t
 changed-length (Place i r) t = length-set t i r
 changed-length (Refuse c) t = refl
-
--- the rule of what is asked
-abbrev pub ruleOf : Asked → Table → ℕ → ℕ × Table
-ruleOf Admission = admit
-ruleOf Removal = remove
 
 -- what a change of the table t at x says, where p is the number and the table that the rule says; and the place is in the table
 abbrev Says : Target → Table → ℕ × Table → Type 0

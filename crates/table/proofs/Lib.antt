@@ -5,6 +5,4 @@ pub mod Callees
 pub mod Searched
 pub mod Receiving
 pub mod Changing
-pub mod Asking
-pub mod ByValue
 pub mod ReceivingByValue

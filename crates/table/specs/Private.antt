@@ -24,7 +24,7 @@ use Rattle.table.specs.declared.Target.{Target}
 use Rattle.table.specs.declared.Target.the-variants.{Place, Refuse}
 use Rattle.table.specs.declared.Change.{Change}
 use Rattle.table.specs.declared.Change.the-variants.{Made, Refused}
-use Rattle.table.specs.Table.{Table, holds, isUnused, any, place}
+use Rattle.table.specs.Table.{Table, holds, isUnused, any, place, admit, remove}
 
 -- ---- The reader
 
@@ -68,6 +68,11 @@ changedAt (Refuse c) t = t
 abbrev pub Fits : Target → ℕ → Type 0
 Fits (Place i r) n = i < n
 Fits (Refuse c) n = Unit {0}
+
+-- the rule of what is asked
+abbrev pub ruleOf : Asked → Table → ℕ → ℕ × Table
+ruleOf Admission = admit
+ruleOf Removal = remove
 
 -- ---- The step of a frame that has been read, and its receipt
 

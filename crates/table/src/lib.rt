@@ -14,7 +14,7 @@ ghost use Rattle.frame.specs.Reading.{readAnswer};
 ghost use Rattle.stream.specs.Records.{unused};
 ghost use Rattle.stream.specs.declared.Receipt.the-variants.{Refused};
 ghost use Rattle.table.specs.Table.{at, admit, remove, ChangedBy, Receives, ReceivesAlone};
-ghost use Rattle.table.specs.Private.{wants, find, readingFor, targetOf, changeOf, changedAt, Fits, served};
+ghost use Rattle.table.specs.Private.{wants, find, readingFor, targetOf, changeOf, changedAt, Fits, ruleOf, served};
 
 // What a search looks for: the record in use that holds an id, or an unused one.
 pub(crate) enum Wanted {
@@ -231,25 +231,29 @@ fn store(table: &mut [Record], target: Target) -> Change
     }
 }
 
+// What is asked for an id, in a table that is lent: one search for the id, one for an unused record, and at most one record is stored.
+// Removal has no need of an unused record; it is searched for all the same, so that what is asked is told apart in one place.
+fn change_table(table: &mut [Record], id: u64, asked: Asked) -> Change
+    ensures { λ r. ⌜ ChangedBy (ruleOf asked) (now (table .entry)) id r (now (table .exit)) ⌝ }
+{
+    let held = find(table, Wanted::Holding(id));
+    let free = find(table, Wanted::Unused);
+    let target = decide(asked, id, table.len(), held, free);
+    store(table, target)
+}
+
 // The stream is admitted at the lowest unused place, with nothing seen.
 pub fn admit(table: &mut [Record], id: u64) -> Change
     ensures { λ r. ⌜ ChangedBy admit (now (table .entry)) id r (now (table .exit)) ⌝ }
 {
-    let held = find(table, Wanted::Holding(id));
-    let free = find(table, Wanted::Unused);
-    let target = decide(Asked::Admission, id, table.len(), held, free);
-    store(table, target)
+    change_table(table, id, Asked::Admission)
 }
 
-// The stream's record is unused again, with every field zero. Removal has no need of an unused place; it is searched for all the same, so
-// that the two calls differ in what is asked alone, and one proof is for both.
+// The stream's record is unused again, with every field zero.
 pub fn remove(table: &mut [Record], id: u64) -> Change
     ensures { λ r. ⌜ ChangedBy remove (now (table .entry)) id r (now (table .exit)) ⌝ }
 {
-    let found = find(table, Wanted::Holding(id));
-    let free = find(table, Wanted::Unused);
-    let target = decide(Asked::Removal, id, table.len(), found, free);
-    store(table, target)
+    change_table(table, id, Asked::Removal)
 }
 
 // Receiving, admission and removal over a table of 64 records by value.
@@ -264,26 +268,27 @@ pub fn receive_in(table: [Record; 64], frame: &[u8], arrival_time: u64) -> Recei
     }
 }
 
-pub fn admit_in(table: [Record; 64], id: u64) -> Changed
-    ensures { λ r. ⌜ ChangedBy admit table id (r .change) (r .table) ⌝ }
+fn change_in(table: [Record; 64], id: u64, asked: Asked) -> Changed
+    ensures { λ r. ⌜ ChangedBy (ruleOf asked) table id (r .change) (r .table) ⌝ }
 {
     let mut records = table;
-    let change = admit(&mut records, id);
+    let change = change_table(&mut records, id, asked);
     Changed {
         table: records,
         change,
     }
 }
 
+pub fn admit_in(table: [Record; 64], id: u64) -> Changed
+    ensures { λ r. ⌜ ChangedBy admit table id (r .change) (r .table) ⌝ }
+{
+    change_in(table, id, Asked::Admission)
+}
+
 pub fn remove_in(table: [Record; 64], id: u64) -> Changed
     ensures { λ r. ⌜ ChangedBy remove table id (r .change) (r .table) ⌝ }
 {
-    let mut records = table;
-    let change = remove(&mut records, id);
-    Changed {
-        table: records,
-        change,
-    }
+    change_in(table, id, Asked::Removal)
 }
 
 // A table with every record unused.
