@@ -44,15 +44,13 @@ use Rattle.stream.proofs.Record as T
 use Rattle.stream.proofs.Receipt as P
 use Rattle.stream.proofs.Receipt.Laws as P′
 use Rattle.table.specs.declared.Change.{Change}
-use Rattle.table.specs.Table.{changeNumber, ChangedBy, receive, Receives}
+use Rattle.table.specs.Table.{changeNumber, receive, Receives}
 use Rattle.table.proofs.Change as Y
 use Rattle.table.proofs.Change.Laws as Y′
 use Rattle.table.proofs.Machine.{machP, machY}
 use Rattle.walks.proofs.Calls.{some-said}
 use Rattle.walks.proofs.Lending.{Part, Alive, Token, Mine}
 use Rattle.table.proofs.receive as receiving
-use Rattle.table.proofs.admit as admitting
-use Rattle.table.proofs.Callees.{Changer, Answers}
 use Rattle.lines.specs.declared.Outcome.{Outcome}
 use Rattle.lines.specs.Lines.{Line, lineOf}
 use Rattle.listing.specs.Listing.{changeLine}
@@ -201,34 +199,6 @@ module _ {M : Type 1} (𝓤 : URA M) (H : Heap 𝓤) (A : Atoms 𝓤) (mem : Mem
             -- [the last list; its length; true; the tokens and the result]
             move ! (3 ∷ []) $ split ! $ move ! (1 ∷ []) $ peeks ! P.the-row (Is P.the-row) (shows 𝓤 H A P.the-row) r (v ∷ []) (λ is. drop ! $ split ! $ nothing ! $ move ! (1 ∷ 0 ∷ []) $ join ! $ move ! (0 ∷ 2 ∷ []) $ join ! $ join ! $
             at-once ! $ show ! (Given-back v) r $ frame ! $ by ! (factI 𝓤 (ReceiveSaid r × Is P.the-row r (v ∷ [])) _ (e .answer, is))))))
-
-    -- admission or removal, by its rule
-    module _ (rule : List Record → ℕ → ℕ × List Record) (id : ℕ) where
-      abbrev pub to-changer : Changer 𝓤 H A mem run rule .Ghost
-      to-changer = (((ν ∷ [], tt), (fullShare, tt), tt, (x, (id, tt)), (sliceVal (b, o) (length ys) ∷ [], (vint w64 id ∷ [], tt))), tt)
-
-      abbrev pub ChangerSaid : Change → Type 0
-      ChangerSaid c = Answers 𝓤 H A mem run rule ys id c
-
-      module _ (W : Given 𝓤 H A) where
-        pub goes-changer : id < 2 ^ 64 → ent 𝓤 (mean 𝓤 H A ((Token 𝓤 ν ⊛ Lent) ⊛ ‵ ftrue)) (Changer 𝓤 H A mem run rule .pre to-changer)
-        goes-changer fits =
-            qed W (((Token 𝓤 ν ⊛ Lent) ⊛ ‵ ftrue) ∷ []) ∵ split ! $ split ! $
-            -- [ν's token; the table; true]
-            move ! (2 ∷ []) $ owned ! u64 (Is u64) (uint-makes 𝓤 H A W w64) id _ (refl, fits) $ fjoin ! $ move ! (2 ∷ 0 ∷ []) $ fjoin ! $ move ! (1 ∷ 0 ∷ []) $ join ! $ frame ! $ done !
-
-        abbrev Changer-back : Val → Change → SProp 𝓤
-        Changer-back v c = sep 𝓤 (mean 𝓤 H A ((Token 𝓤 ν ⊛ ‵ (finally T.the-row γ (rule ys id .1))) ⊛ ‵ ftrue)) (fact 𝓤 (ChangerSaid c × Is Y.the-row c (v ∷ [])))
-
-        pub changer-is : (v : Val) → ent 𝓤 (Changer 𝓤 H A mem run rule .post to-changer v) (H .⇛ (ex 𝓤 (Changer-back v)))
-        changer-is v =
-            qed W (raw (Changer 𝓤 H A mem run rule .post to-changer v) ∷ []) ∵ updating ! $
-            use1 W (later (some (λ (c : Change). (Token 𝓤 ν ⊛ ‵ (Y.the-row .own c (v ∷ []))) ⊛ some (λ (zs : List Record × (Unit {0} × Unit {0})). ‵ (lasts admitting.ended (ν ∷ [], tt) (x, (id, tt)) zs) ⊛ raw (fact 𝓤 (ChangedBy rule ys id c (zs .0))))))) (id⊢ 𝓤 _) $ await ! tt $ pick ! (λ c.
-            split ! $ move ! (1 ∷ []) $ pick ! (λ zs. split ! $ move ! (1 ∷ []) $ heard ! (ChangedBy rule ys id c (zs .0)) (λ e. fsplit ! $ fsplit ! $ rewrite ! 0 (λ (l : List Record). ‵ (finally T.the-row γ l)) (e .table) refl $
-            move ! (3 ∷ []) $ split ! $ move ! (1 ∷ []) $ peeks ! Y.the-row (Is Y.the-row) (shows 𝓤 H A Y.the-row) c (v ∷ []) (λ is. drop ! $
-            -- [ν's token; the last list; its length; …]
-            join ! $ nothing ! $ move ! (1 ∷ 0 ∷ []) $ join ! $
-            at-once ! $ show ! (Changer-back v) c $ frame ! $ by ! (factI 𝓤 (ChangerSaid c × Is Y.the-row c (v ∷ [])) _ (e .number, is))))))
 
   -- ---- callees that take what the table answered
   abbrev pub OfReceipt : Contract 𝓤

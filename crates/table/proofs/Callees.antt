@@ -71,7 +71,7 @@ use Rattle.table.proofs.receive_alone as receive-alone
 use Rattle.table.proofs.decide as deciding
 use Rattle.table.proofs.store as store
 use Rattle.table.proofs.change_table as changing
-use Rattle.table.proofs.admit as admitting
+use Rattle.table.proofs.remove as removing
 use Rattle.table.proofs.receive as receiving
 
 module _ {M : Type 1} (𝓤 : URA M) (H : Heap 𝓤) (A : Atoms 𝓤) (mem : Memory → SProp 𝓤) (run : Routine → Fun 𝓤) where
@@ -244,37 +244,11 @@ module _ {M : Type 1} (𝓤 : URA M) (H : Heap 𝓤) (A : Atoms 𝓤) (mem : Mem
       store-is v = is-last 𝓤 H A W Y.the-row T.the-row γ (changedAt t ys) v (Alive 𝓤 κ q) (List Record × (Unit {0} × Unit {0})) (λ z. z .0) (λ z. lasts store.ended (κ, tt) (x b o γ ys, (t, tt)) z) StoreSaid
           (λ z. qed W (‵ (lasts store.ended (κ, tt) (x b o γ ys, (t, tt)) z) ∷ []) ∵ fsplit ! $ fsplit ! $ keep ! (0 ∷ []) $ done !) (changeOf t) (λ c l e. (e .1, e .0))
 
-  -- ---- callees that a local array is lent to
+  -- ---- callees that change a table, and one that receives into it
 
-  -- admission or removal, by the rule that says the number and the table; both have one signature
-  module _ (rule : List Record → ℕ → ℕ × List Record) where
-    abbrev pub Answers : List Record → ℕ → Change → Type 0
-    Answers ys id c = changeNumber c ≡ rule ys id .0
-
-    abbrev pub changes : Clauses 𝓤 admitting.ended
-    changes κs a = record { ghost = Unit {0}; requires = λ g. emp 𝓤; ensures = λ g c end. fact 𝓤 (ChangedBy rule (now (a .0)) (a .1 .0) c (now (end .0))) }
-
-    abbrev pub Changer : Contract 𝓤
-    Changer = tripleOf 𝓤 H A admitting.signature (closing 𝓤 H A admitting.ended changes)
-
-    module _ (κ : Lft) (q : Share) (b o : ℕ) (γ : GName) (ys : List Record) (id : ℕ) where
-      abbrev ArgId : Type 0
-      ArgId = RefT (List Record) × (ℕ × Unit {0})
-
-      abbrev with-id : ArgId
-      with-id = (x b o γ ys, (id, tt))
-
-      abbrev pub to-changer : Changer .Ghost
-      to-changer = (((κ, tt), (q, tt), tt, with-id, (sliceVal (b, o) (length ys) ∷ [], (vint w64 id ∷ [], tt))), tt)
-
-      module _ (W : Given 𝓤 H A) where
-        pub goes-changer : id < 2 ^ 64 → ent 𝓤 (mean 𝓤 H A (Alive 𝓤 κ q ⊛ Mut κ b o γ ys)) (Changer .pre to-changer)
-        goes-changer fits =
-            qed W (Alive 𝓤 κ q ∷ Mut κ b o γ ys ∷ []) ∵ nothing ! $ owned ! u64 (Is u64) (uint-makes 𝓤 H A W w64) id _ (refl, fits) $ fjoin ! $ move ! (2 ∷ 0 ∷ []) $ fjoin ! $ move ! (1 ∷ 0 ∷ []) $ join ! $ frame ! $ done !
-
-        pub changer-is : (v : Val) → ent 𝓤 (Changer .post to-changer v) (H .⇛ (ex 𝓤 (λ (c : Change). sep 𝓤 (mean 𝓤 H A (Alive 𝓤 κ q ⊛ ‵ (finally T.the-row γ (rule ys id .1)))) (fact 𝓤 (Answers ys id c × Is Y.the-row c (v ∷ []))))))
-        changer-is v = some-last 𝓤 H A W Y.the-row T.the-row γ (rule ys id .1) v (Alive 𝓤 κ q) (List Record × (Unit {0} × Unit {0})) (λ z. z .0) (λ z. lasts admitting.ended (κ, tt) with-id z) (ChangedBy rule ys id)
-            (λ z. qed W (‵ (lasts admitting.ended (κ, tt) with-id z) ∷ []) ∵ fsplit ! $ fsplit ! $ keep ! (0 ∷ []) $ done !) (Answers ys id) (λ c l e. (e .table, e .number))
+  -- what is answered, by the rule that says the number and the table
+  abbrev pub Answers : (List Record → ℕ → ℕ × List Record) → List Record → ℕ → Change → Type 0
+  Answers rule ys id c = changeNumber c ≡ rule ys id .0
 
   abbrev pub ChangeTable : Contract 𝓤
   ChangeTable = tripleOf 𝓤 H A changing.signature (changing.spec 𝓤 H A mem run)
@@ -298,6 +272,33 @@ module _ {M : Type 1} (𝓤 : URA M) (H : Heap 𝓤) (A : Atoms 𝓤) (mem : Mem
       pub change-table-is : (v : Val) → ent 𝓤 (ChangeTable .post to-change-table v) (H .⇛ (ex 𝓤 (λ (c : Change). sep 𝓤 (mean 𝓤 H A (Alive 𝓤 κ q ⊛ ‵ (finally T.the-row γ (ruleOf k ys id .1)))) (fact 𝓤 (Answers (ruleOf k) ys id c × Is Y.the-row c (v ∷ []))))))
       change-table-is v = some-last 𝓤 H A W Y.the-row T.the-row γ (ruleOf k ys id .1) v (Alive 𝓤 κ q) (List Record × (Unit {0} × (Unit {0} × Unit {0}))) (λ z. z .0) (λ z. lasts changing.ended (κ, tt) to-be-changed z) (ChangedBy (ruleOf k) ys id)
           (λ z. qed W (‵ (lasts changing.ended (κ, tt) to-be-changed z) ∷ []) ∵ fsplit ! $ fsplit ! $ keep ! (0 ∷ []) $ done !) (Answers (ruleOf k) ys id) (λ c l e. (e .table, e .number))
+
+  -- admission or removal, by its rule; both have one signature
+  module _ (rule : List Record → ℕ → ℕ × List Record) where
+    abbrev changes : Clauses 𝓤 removing.ended
+    changes κs a = record { ghost = Unit {0}; requires = λ g. emp 𝓤; ensures = λ g c end. fact 𝓤 (ChangedBy rule (now (a .0)) (a .1 .0) c (now (end .0))) }
+
+    abbrev pub Changer : Contract 𝓤
+    Changer = tripleOf 𝓤 H A removing.signature (closing 𝓤 H A removing.ended changes)
+
+    module _ (κ : Lft) (q : Share) (b o : ℕ) (γ : GName) (ys : List Record) (id : ℕ) where
+      abbrev ArgId : Type 0
+      ArgId = RefT (List Record) × (ℕ × Unit {0})
+
+      abbrev with-id : ArgId
+      with-id = (x b o γ ys, (id, tt))
+
+      abbrev pub to-changer : Changer .Ghost
+      to-changer = (((κ, tt), (q, tt), tt, with-id, (sliceVal (b, o) (length ys) ∷ [], (vint w64 id ∷ [], tt))), tt)
+
+      module _ (W : Given 𝓤 H A) where
+        pub goes-changer : id < 2 ^ 64 → ent 𝓤 (mean 𝓤 H A (Alive 𝓤 κ q ⊛ Mut κ b o γ ys)) (Changer .pre to-changer)
+        goes-changer fits =
+            qed W (Alive 𝓤 κ q ∷ Mut κ b o γ ys ∷ []) ∵ nothing ! $ owned ! u64 (Is u64) (uint-makes 𝓤 H A W w64) id _ (refl, fits) $ fjoin ! $ move ! (2 ∷ 0 ∷ []) $ fjoin ! $ move ! (1 ∷ 0 ∷ []) $ join ! $ frame ! $ done !
+
+        pub changer-is : (v : Val) → ent 𝓤 (Changer .post to-changer v) (H .⇛ (ex 𝓤 (λ (c : Change). sep 𝓤 (mean 𝓤 H A (Alive 𝓤 κ q ⊛ ‵ (finally T.the-row γ (rule ys id .1)))) (fact 𝓤 (Answers rule ys id c × Is Y.the-row c (v ∷ []))))))
+        changer-is v = some-last 𝓤 H A W Y.the-row T.the-row γ (rule ys id .1) v (Alive 𝓤 κ q) (List Record × (Unit {0} × Unit {0})) (λ z. z .0) (λ z. lasts removing.ended (κ, tt) with-id z) (ChangedBy rule ys id)
+            (λ z. qed W (‵ (lasts removing.ended (κ, tt) with-id z) ∷ []) ∵ fsplit ! $ fsplit ! $ keep ! (0 ∷ []) $ done !) (Answers rule ys id) (λ c l e. (e .table, e .number))
 
   abbrev pub Receive : Contract 𝓤
   Receive = tripleOf 𝓤 H A receiving.signature (receiving.spec 𝓤 H A mem run)

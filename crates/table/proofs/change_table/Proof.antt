@@ -39,7 +39,6 @@ use denote.Triple.Walked.{says, Stays, stay-none, stay-slice, walkOf, goes-none,
 use denote.Exit.{yes}
 use Rattle.stream.specs.declared.Record.{Record}
 use Rattle.stream.proofs.Record as T
-use Rattle.stream.proofs.Record.Laws as T′
 use Rattle.table.specs.declared.Found.{Found}
 use Rattle.table.specs.declared.Asked.{Asked}
 use Rattle.table.specs.declared.Target.{Target}
