@@ -1,10 +1,12 @@
 //! A capture's records.
 
+use crate::presentation::LARGEST_LIMIT;
 use crate::refusal::Refusal;
 
 const KIND_FRAME: u16 = 1;
 const KIND_ADMIT: u16 = 2;
 const KIND_REMOVE: u16 = 3;
+const KIND_ADMIT_WITH_LIMIT: u16 = 5;
 
 /// The longest record: its two length bytes and 65,535 bytes after them.
 pub const LONGEST_RECORD: usize = 2 + u16::MAX as usize;
@@ -12,8 +14,16 @@ pub const LONGEST_RECORD: usize = 2 + u16::MAX as usize;
 /// A sound record of a capture.
 #[derive(Clone, Copy, Debug, PartialEq, Eq)]
 pub enum CaptureRecord<'a> {
-    Frame { arrival: u64, frame: &'a [u8] },
-    Admit(u64),
+    Frame {
+        arrival: u64,
+        frame: &'a [u8],
+    },
+    /// Admits a stream with a transit limit in nanoseconds, which may be too large
+    /// (request #107).
+    Admit {
+        id: u64,
+        limit: u32,
+    },
     Remove(u64),
 }
 
@@ -36,13 +46,20 @@ pub fn parse_record(record: &[u8]) -> Result<CaptureRecord<'_>, Refusal> {
             }
             None => Err(Refusal::RecordLength),
         },
-        KIND_ADMIT => Ok(CaptureRecord::Admit(parse_stream_id(body)?)),
+        KIND_ADMIT => Ok(CaptureRecord::Admit { id: parse_stream_id(body)?, limit: LARGEST_LIMIT }),
         KIND_REMOVE => Ok(CaptureRecord::Remove(parse_stream_id(body)?)),
+        KIND_ADMIT_WITH_LIMIT => match body.split_last_chunk() {
+            Some((id, limit)) => Ok(CaptureRecord::Admit {
+                id: parse_stream_id(id)?,
+                limit: u32::from_le_bytes(*limit),
+            }),
+            None => Err(Refusal::RecordLength),
+        },
         _ => Err(Refusal::RecordKind),
     }
 }
 
-/// Reads the body of an admission or a removal.
+/// Reads a stream id, which has all of `body`.
 fn parse_stream_id(body: &[u8]) -> Result<u64, Refusal> {
     match body.try_into() {
         Ok(id) => Ok(u64::from_be_bytes(id)),
@@ -59,24 +76,43 @@ mod tests {
         let number = |record: &[u8]| parse_record(record).map_or_else(Refusal::number, |_| 0);
         assert_eq!(number(&[]), 42);
         assert_eq!(number(&[1]), 42);
-        for (kind, lengths) in [(1, 10..=65535), (2, 10..=10), (3, 10..=10)] {
-            for length in [2, 3, 9, 10, 11, 65535] {
+        for (kind, lengths) in [(1, 10..=65535), (2, 10..=10), (3, 10..=10), (5, 14..=14)] {
+            for length in [2, 3, 5, 6, 9, 10, 11, 13, 14, 15, 65535] {
                 let mut record = vec![0; length];
                 record[0] = kind;
                 let answer = if lengths.contains(&length) { 0 } else { 42 };
                 assert_eq!(number(&record), answer, "kind {kind}, length {length}");
             }
         }
-        for kind in [[0, 0], [4, 0], [1, 1], [0, 1], [255, 255]] {
+        for kind in [[0, 0], [4, 0], [6, 0], [1, 1], [5, 1], [0, 1], [0, 5], [255, 255]] {
             assert_eq!(number(&kind), 43);
             assert_eq!(number(&[&kind[..], &[0; 8]].concat()), 43);
+            assert_eq!(number(&[&kind[..], &[0; 12]].concat()), 43);
         }
         assert_eq!(
             parse_record(&[1, 0, 1, 2, 0, 0, 0, 0, 0, 0]),
             Ok(CaptureRecord::Frame { arrival: 513, frame: &[] })
         );
-        assert_eq!(parse_record(&[2, 0, 0, 0, 0, 0, 0, 0, 2, 1]), Ok(CaptureRecord::Admit(513)));
+        assert_eq!(
+            parse_record(&[2, 0, 0, 0, 0, 0, 0, 0, 2, 1]),
+            Ok(CaptureRecord::Admit { id: 513, limit: 2_147_483_647 })
+        );
         assert_eq!(parse_record(&[3, 0, 0, 0, 0, 0, 0, 0, 2, 1]), Ok(CaptureRecord::Remove(513)));
+    }
+
+    #[test]
+    fn limits() {
+        for (bytes, limit) in [
+            ([0, 0, 0, 0], 0),
+            ([1, 0, 0, 0], 1),
+            ([4, 3, 2, 1], 0x0102_0304),
+            ([255, 255, 255, 127], 2_147_483_647),
+            ([0, 0, 0, 128], 2_147_483_648),
+            ([255, 255, 255, 255], 4_294_967_295),
+        ] {
+            let record = [&[5, 0, 0, 0, 0, 0, 0, 0, 2, 1][..], &bytes].concat();
+            assert_eq!(parse_record(&record), Ok(CaptureRecord::Admit { id: 513, limit }));
+        }
     }
 
     #[test]

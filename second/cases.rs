@@ -1,14 +1,15 @@
-//! Says which cases of a rule the frames of captures are.
+//! Says which cases of a rule the records of captures are.
 //!
 //! `second_cases FILE..` goes through each capture named as `second_list` does. For
-//! each frame it writes a line for each case that the frame is, such as
+//! each record it writes a line for each case that the record is, such as
 //! `sph fn=2 start last` (`starts.rs` says which there are), `qpc=3 alone` (`qpc.rs`
-//! does) or `sph=0 half a wrap, L + d below 0` (`half_wrap.rs` does). Neither a listing
-//! nor a report shows any of this, and the comparisons have to know that each came up.
+//! does), `sph=0 half a wrap, L + d below 0` (`half_wrap.rs` does) or
+//! `limit=0 admitted` (`limits.rs` does). Neither a listing nor a report shows any of this, and the
+//! comparisons have to know that each came up.
 //!
 //! This file is a root beside `list.rs`, over rooms that stand there too; from the
 //! bottom: wire, refusal, cip, frame, presentation, stream, table, capture, outcome,
-//! reading, starts, qpc, half_wrap.
+//! reading, starts, qpc, half_wrap, limits.
 //!
 //! Build: `build.sh OUTDIR`.
 
@@ -16,6 +17,7 @@ mod capture;
 mod cip;
 mod frame;
 mod half_wrap;
+mod limits;
 mod outcome;
 #[allow(dead_code)] // no time's kind is printed
 mod presentation;
@@ -30,6 +32,7 @@ mod table;
 mod wire;
 
 use half_wrap::half_wrap_cases;
+use limits::{limit_cases, Limits};
 use outcome::carry_out;
 use qpc::qpc_cases;
 use reading::{read_records, Failure, BUFFER};
@@ -43,12 +46,14 @@ use table::StreamTable;
 fn write_cases(input: &mut impl Read, out: &mut impl Write, buffer: &mut [u8]) -> io::Result<()> {
     let mut table = StreamTable::new();
     let mut heedless = StreamTable::new();
+    let mut limits = Limits::new();
     let done = read_records(input, buffer, |record| {
         let outcome = carry_out(&mut table, record);
         let cases = [
             start_cases(&outcome),
             qpc_cases(&mut heedless, record, &outcome),
             half_wrap_cases(record, &outcome),
+            limit_cases(&mut limits, record, &outcome),
         ];
         cases.concat().iter().try_for_each(|case| writeln!(out, "{case}"))
     });
@@ -82,14 +87,22 @@ fn main() -> ExitCode {
 mod tests {
     use super::*;
     use crate::samples::{
-        admit_record, frame_record, of_length, record, remove_record, sound, stamped, with,
+        admit_record, frame_record, limited_record, of_length, record, remove_record, sound,
+        stamped, with,
     };
 
-    /// The lines of a capture of these records, on one line.
-    fn said(records: &[Vec<u8>]) -> String {
+    /// The lines of a capture of these records.
+    fn lines(records: &[Vec<u8>]) -> Vec<String> {
         let mut out = Vec::new();
         write_cases(&mut &records.concat()[..], &mut out, &mut vec![0; BUFFER]).unwrap();
-        String::from_utf8(out).unwrap().lines().collect::<Vec<_>>().join(", ")
+        String::from_utf8(out).unwrap().lines().map(String::from).collect()
+    }
+
+    /// Those that aren't about limits, on one line.
+    fn said(records: &[Vec<u8>]) -> String {
+        let mut lines = lines(records);
+        lines.retain(|line| !line.starts_with("limit"));
+        lines.join(", ")
     }
 
     #[test]
@@ -148,6 +161,30 @@ mod tests {
         // No stamp is read, and then a frame that is refused.
         assert_eq!(lines(0, &with(by_timestamp.clone(), 19, 0x80)), "");
         assert_eq!(lines(0, &with(by_timestamp, 29, 2)), "");
+    }
+
+    #[test]
+    fn limits_of_every_record() {
+        let capture = [
+            limited_record(1, 1),
+            record(4, &[]),
+            frame_record(0, &stamped(sound(1, &[]), 1)),
+            frame_record(0, &stamped(sound(1, &[]), 2)),
+        ];
+        let expected = [
+            "limit=1 admitted",
+            "limit allowed in either order",
+            "limit record of kind 4, length any",
+            "limit sph=0 d equal, L + d inside",
+            "limit=1 d=1, kind 5",
+            "limit told from 0, kind 5",
+            "limit sph=0 d one above, L + d inside",
+            "limit=1 d=2, kind 5",
+            "limit told from the largest",
+            "limit told from its bytes in the other order",
+            "limit told from the largest after an accepted frame",
+        ];
+        assert_eq!(lines(&capture), expected);
     }
 
     #[test]

@@ -8,8 +8,8 @@
 # listings must agree byte for byte; some captures also go to the first program
 # through a pipe in small pieces. Then it is shown how often each thing that a
 # listing can say came up, and each case of a rule that it doesn't show (starts.rs,
-# qpc.rs and half_wrap.rs say which there are), and each that must come up has to. A
-# capture that differs is named by its number; it is made again by
+# qpc.rs, half_wrap.rs and limits.rs say which there are), and each that must come up has
+# to. A capture that differs is named by its number; it is made again by
 # `generate DIR SEED COUNT`.
 set -euo pipefail
 
@@ -60,17 +60,22 @@ covered=true
 awk "$counting"'
     BEGIN {
         for (i = 1; i <= 16; i++) known("refused " i)
-        split("21 22 23 41 42 43", more)
-        for (i = 1; i <= 6; i++) known("refused " more[i])
+        split("21 22 23 24 41 42 43", more)
+        for (i = 1; i <= 7; i++) known("refused " more[i])
         split("seq=ok seq=break dbc=ok dbc=break fmt=ok fmt=change mr=ok mr=change", flags)
         for (i = 1; i <= 8; i++) known(flags[i])
-        split("none outside late ahead unclear", kinds)
-        for (i = 1; i <= 5; i++) known("time=" kinds[i])
+        split("none outside late ahead unclear far", kinds)
+        for (i = 1; i <= 6; i++) known("time=" kinds[i])
         known("time=outside below 0")
         known("time=outside past 64 bits")
+        known("time=ahead offset=0")
+        known("time=ahead offset=2147483647")
+        known("time=far offset=1")
+        known("time=far offset=2147483647")
         split("-2147483648 -2147483647 -1 0 1 2147483647", offsets)
         for (i = 1; i <= 6; i++) known("offset=" offsets[i])
         half_wraps_known()
+        limits_known()
         known("admitted")
         known("removed")
         known("end records=0")
@@ -92,17 +97,26 @@ awk "$counting"'
     function half_wrap_sound() {
         return ($7 == "time=unclear") == ($8 == "offset=-2147483648")
     }
+    # A far frame is above a limit, which is 0 or more (request #107).
+    function far_sound() {
+        return $7 != "time=far" || $8 ~ /^offset=[1-9]/
+    }
+    # What a line says that is to come up with one kind of time only.
+    function at_an_edge() {
+        return ($7 " " $8) in count
+    }
+    /^(sph|qpc|limit)/ { came($0); next }
     $2 == "refused" && NF == 3 { came("refused " $3); next }
     $2 == "admitted" && NF == 2 { came($2); next }
     $2 == "removed" && NF == 2 { came($2); next }
-    $2 == "frame" && NF == 8 && half_wrap_sound() {
+    $2 == "frame" && NF == 8 && half_wrap_sound() && far_sound() {
         for (i = 3; i <= 7; i++) came($i)
         # An offset of 0 that stands for none is no edge.
         if ($7 != "time=none" && $8 in count) came($8)
+        if (at_an_edge()) came($7 " " $8)
         if ($7 == "time=outside") came($8 ~ /-/ ? $7 " below 0" : $7 " past 64 bits")
         next
     }
-    /^(sph|qpc)/ { came($0); next }
     $0 == "avtp listing 1" { next }
     /^end records=[0-9]+$/ { if ($2 == "records=0") came($0); next }
     { came("any other line") }

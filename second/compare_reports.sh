@@ -10,9 +10,10 @@
 # reported, of about 200 million bytes, in which a stream has more ahead or late
 # frames than are summed. The first program has to say what is wrong where it is given
 # no capture or two. Then it is shown how often each thing that a report can say came
-# up, and each case of half a wrap, which it doesn't show (half_wrap.rs says which there
-# are), and each that must come up has to. A capture that differs is named by its
-# number; it is made again by `generate DIR SEED COUNT`, or `generate --million FILE`.
+# up, and each case of half a wrap and of transit limits, which it doesn't show
+# (half_wrap.rs and limits.rs say which there are), and each that must come up has to. A
+# capture that differs is named by its number; it is made again by
+# `generate DIR SEED COUNT`, or `generate --million FILE`.
 set -euo pipefail
 
 million=false
@@ -80,7 +81,7 @@ agrees - <"$name" || differs "$name" "on standard input, as -"
 # --- What came up -----------------------------------------------------------
 
 # Cases are looked for in the captures of the seed only.
-"$work/second_cases" [0-9]*.cap | sed -n '/^sph=/p' >"$work/cases"
+"$work/second_cases" [0-9]*.cap | sed -nE '/^(sph=|limit)/p' >"$work/cases"
 covered=true
 awk -v million="$million" "$counting"'
     BEGIN {
@@ -92,12 +93,20 @@ awk -v million="$million" "$counting"'
         known("id 0")
         known("id 18446744073709551615")
         # The columns after the id, up to the kinds.
-        split("frames,sequence,block,format,mr,none,cut,outside,late,ahead,unclear", column, ",")
-        for (i = 1; i <= 11; i++) if (column[i] != "cut") known(column[i] " above 0")
+        split("frames sequence block format mr none cut outside late ahead unclear far", column)
+        for (i = 1; i <= 12; i++) if (column[i] != "cut") known(column[i] " above 0")
         known("none: no frame")
         known("none: frames of other kinds")
         known("none: unclear frames")
+        known("none: far frames")
+        known("none: far frames alone")
+        known("none: far, unclear and outside")
         known("unclear beside late or ahead")
+        known("far beside late")
+        known("far beside ahead")
+        known("far beside late and ahead")
+        known("far beside unclear")
+        known("far beside outside")
         known("only late")
         known("only ahead")
         known("smallest -2147483647")
@@ -115,8 +124,12 @@ awk -v million="$million" "$counting"'
             known("million: some not summed")
             known("million: 1000000, all summed")
             known("million: 999999, all summed")
+            known("million: far beside some not summed")
+            known("million: far beside 1000000, all summed")
+            known("million: far beside 999999, all summed")
         }
         half_wraps_known()
+        limits_known()
         # A frame whose stamp would be cut is refused 14.
         forbidden("cut above 0")
         # Half a wrap is unclear, and not summed (request #106).
@@ -136,25 +149,43 @@ awk -v million="$million" "$counting"'
     }
     # Answers whether a line is one of a report, with numbers that go together.
     function sound() {
-        if (NF != 17 || $7 + $8 + $9 + $10 + $11 + $12 != $2) return 0
+        if (NF != 18 || $7 + $8 + $9 + $10 + $11 + $12 + $13 != $2) return 0
         if ($10 + $11 == 0) return /^[0-9 ]+ none none none none 0$/
         if (!/^[0-9 ]+ -?[0-9]+ -?[0-9]+ -?[0-9]+ -?[0-9]+\/[0-9]+ [0-9]+$/) return 0
-        return $13 <= $14 && $16 == $15 "/" ($10 + $11 - $17)
+        # Where all are summed, the smallest tells if any is late, the largest if any is ahead.
+        if ($18 == 0 && (($10 > 0) != ($14 < 0) || ($11 > 0) != ($15 >= 0))) return 0
+        return $14 <= $15 && $17 == $16 "/" ($10 + $11 - $18)
     }
     # Counts what a line says of offsets.
     function offsets_came(   summed) {
-        summed = $10 + $11 - $17
+        summed = $10 + $11 - $18
         if ($10 == 0 || $11 == 0) came($10 == 0 ? "only ahead" : "only late")
-        if ($13 <= -2147483647) came("smallest " $13)
-        if ($14 == 2147483647) came("largest 2147483647")
-        if ($13 < $14) came("smallest below largest")
-        came("sum " ($15 < 0 ? "below 0" : $15 > 0 ? "above 0" : "0"))
-        if ($15 < -2147483648 || $15 > 4294967295) came("sum past 32 bits")
+        if ($14 <= -2147483647) came("smallest " $14)
+        if ($15 == 2147483647) came("largest 2147483647")
+        if ($14 < $15) came("smallest below largest")
+        came("sum " ($16 < 0 ? "below 0" : $16 > 0 ? "above 0" : "0"))
+        if ($16 < -2147483648 || $16 > 4294967295) came("sum past 32 bits")
         came(summed == 1 ? "mean over 1" : "mean over several")
-        if (common_factor($15 < 0 ? -$15 : $15, summed) > 1) came("mean that could be reduced")
-        if ($15 == 0 && summed > 1) came("mean 0 over several")
-        if ($17 > 0) came(capture == "million" ? "million: some not summed" : "not summed above 0")
-        else if (summed >= 999999) came("million: " summed ", all summed")
+        if (common_factor($16 < 0 ? -$16 : $16, summed) > 1) came("mean that could be reduced")
+        if ($16 == 0 && summed > 1) came("mean 0 over several")
+        if (capture == "million") million_came($18 ? "some not summed" : summed ", all summed")
+        else if ($18 > 0) came("not summed above 0")
+    }
+    # Counts how many of the first million of a stream were summed.
+    function million_came(how) {
+        came("million: " how)
+        if ($13 > 0) came("million: far beside " how)
+    }
+    # Counts what a line says of far frames, of which there are some.
+    function far_came() {
+        if ($14 == "none") came("none: far frames")
+        if ($13 == $2) came("none: far frames alone")
+        if ($14 == "none" && $12 > 0 && $9 > 0) came("none: far, unclear and outside")
+        if ($10 > 0) came("far beside late")
+        if ($11 > 0) came("far beside ahead")
+        if ($10 > 0 && $11 > 0) came("far beside late and ahead")
+        if ($12 > 0) came("far beside unclear")
+        if ($9 > 0) came("far beside outside")
     }
     function report_came() {
         if (streams < 2) came("report of " (streams ? "one stream" : "no stream"))
@@ -167,16 +198,17 @@ awk -v million="$million" "$counting"'
         streams = disordered = 0
         next
     }
-    /^sph=/ { came($0); next }
+    /^(sph=|limit)/ { came($0); next }
     !sound() { came("any other line"); next }
     {
         if (streams++ && below($1, last)) disordered = 1
         last = $1
         if ($1 == "0" || $1 == "18446744073709551615") came("id " $1)
-        for (i = 1; i <= 11; i++) if ($(i + 1) > 0) came(column[i] " above 0")
-        if ($13 != "none") offsets_came()
+        for (i = 1; i <= 12; i++) if ($(i + 1) > 0) came(column[i] " above 0")
+        if ($14 != "none") offsets_came()
         else came($2 == 0 ? "none: no frame" : "none: frames of other kinds")
-        if ($12 > 0) came($13 == "none" ? "none: unclear frames" : "unclear beside late or ahead")
+        if ($12 > 0) came($14 == "none" ? "none: unclear frames" : "unclear beside late or ahead")
+        if ($13 > 0) far_came()
     }
     END {
         report_came()

@@ -31,7 +31,7 @@ prepare() {
 first_out=$work/first.out
 second_out=$work/second.out
 # Every one of this many captures goes through a pipe too. It shares no factor with
-# the 17 of kinds.rs, so that captures of each kind do.
+# the 19 of kinds.rs, so that captures of each kind do.
 piped_each=18
 # The captures for which they print something different, by name.
 declare -A differing=()
@@ -98,13 +98,18 @@ compare_piped() {
 # --- What came up -----------------------------------------------------------
 
 # Functions for awk that count what came up. `known` names a thing that has to come
-# up, `half_wraps_known` all cases of half_wrap.rs, `forbidden` a thing that may not,
-# and `came` says that one did: any other line, where it is neither. `shown` shows how
-# often each came up, and answers whether that is as it must be.
+# up, `each_known` one for each of the parts between semicolons, `half_wraps_known` all
+# cases of half_wrap.rs, `limits_known` all of limits.rs, `forbidden` a thing that may
+# not, and `came` says that one did: any other line, where it is neither. `shown` shows
+# how often each came up, and answers whether that is as it must be.
 counting='
     function known(name) {
         order[++names] = name
         count[name] += 0
+    }
+    function each_known(before, parts, after,   n, i, part) {
+        n = split(parts, part, ";")
+        for (i = 1; i <= n; i++) known(before part[i] after)
     }
     function forbidden(name) {
         known(name)
@@ -120,6 +125,48 @@ counting='
             for (i = 1; i <= 3; i++) known("sph=" sph " d=2147483647, L + d " high[i])
         }
     }
+    function limits_known(   sph, i, place, wrong, limit) {
+        each_known("limit=", "0;1;2147483646;2147483647;any", " admitted")
+        each_known("limit=", "2147483648;4294967295;any", " refused")
+        wrong = "admitted already;table full;admitted already, table full"
+        each_known("limit allowed, ", wrong)
+        each_known("limit too large, ", wrong)
+        known("limit admitted after one too large")
+        each_known("limit allowed in ", "either order;this order only;the other order only")
+        each_known("limit record of length ", "2;10;13;15;any")
+        each_known("limit record of kind 4, length ", "10;14;any")
+        split("below 0;inside;at the largest;past 64 bits", place, ";")
+        for (sph = 0; sph <= 1; sph++) {
+            limit = "limit sph=" sph
+            for (i = 2; i <= 4; i++) {
+                each_known(limit " d ", "one below;equal;one above", ", L + d " place[i])
+                each_known(limit " d ", "further below;further above", ", L + d " place[i])
+            }
+            for (i = 1; i <= 2; i++) {
+                each_known(limit " -d ", "above;not above", ", L + d " place[i])
+                each_known(limit " half a wrap, L + d " place[i] ", limit ",
+                    "0;between;the largest")
+            }
+        }
+        each_known("limit=0 d=", "-1;0;1", ", kind 5")
+        each_known("limit=1 d=", "1;2", ", kind 5")
+        each_known("limit=2147483646 d=", "2147483646;2147483647", ", kind 5")
+        each_known("limit=2147483647 d=", "2147483646;2147483647", ", kind 2")
+        each_known("limit=2147483647 d=", "2147483646;2147483647", ", kind 5")
+        for (i = 2; i <= 5; i += 3) {
+            each_known("limit told from ", "0;the one before removal", ", kind " i)
+            known("limit told from the one before at its place, kind " i)
+        }
+        each_known("limit told from ", "the largest;its bytes in the other order")
+        each_known("limit told from the ", "first stream\047s;last admitted stream\047s")
+        known("limit told from that of the frame before")
+        each_known("limit told from a refused admission\047s, kind ",
+            "2, allowed;5, allowed;5, too large")
+        each_known("limit told from ", "0;the largest;the offset before,",
+            " after an accepted frame")
+        each_known("limit told from ", "0;the largest;the offset before,",
+            " after a refused frame")
+    }
     function came(name) {
         count[name in count ? name : "any other line"]++
     }
@@ -128,7 +175,7 @@ counting='
         as_it_must_be = 1
         for (i = 1; i <= names; i++) {
             name = order[i]
-            printf "  %-40s %d%s\n", name, count[name], may_not[name] ? " (none may come up)" : ""
+            printf "  %-62s %d%s\n", name, count[name], may_not[name] ? " (none may come up)" : ""
             if (may_not[name] ? count[name] > 0 : count[name] == 0) {
                 print (may_not[name] ? "came up, and may not: " : "not covered: ") name
                 as_it_must_be = 0

@@ -114,6 +114,7 @@ mod tests {
         push_outcome(&mut lines, 7, &received(none, TimeKind::Late, -1));
         push_outcome(&mut lines, 8, &received(none, TimeKind::Ahead, i32::MAX));
         push_outcome(&mut lines, 9, &received(none, TimeKind::Unclear, i32::MIN));
+        push_outcome(&mut lines, 10, &received(none, TimeKind::Far, 1));
         push_end(&mut lines, u64::MAX);
         assert_eq!(
             String::from_utf8(lines).unwrap(),
@@ -127,6 +128,7 @@ mod tests {
             7 frame seq=ok dbc=ok fmt=ok mr=ok time=late offset=-1\n\
             8 frame seq=ok dbc=ok fmt=ok mr=ok time=ahead offset=2147483647\n\
             9 frame seq=ok dbc=ok fmt=ok mr=ok time=unclear offset=-2147483648\n\
+            10 frame seq=ok dbc=ok fmt=ok mr=ok time=far offset=1\n\
             end records=18446744073709551615\n"
         );
     }

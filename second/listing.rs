@@ -80,7 +80,8 @@ mod tests {
     use crate::capture::LONGEST_RECORD;
     use crate::reading::BUFFER;
     use crate::samples::{
-        admit_record, frame_record, record, remove_record, sound, stamped, with, Slow,
+        admit_record, frame_record, limited_record, record, remove_record, sound, stamped, with,
+        Slow,
     };
 
     /// Lists what `input` gives: the lines, and the answer.
@@ -144,6 +145,37 @@ mod tests {
             3 frame seq=break dbc=break fmt=change mr=change time=late offset=-1\n\
             4 frame seq=break dbc=ok fmt=ok mr=ok time=unclear offset=-2147483648\n\
             end records=4\n"
+        );
+    }
+
+    #[test]
+    fn limits_are_listed() {
+        let ahead_by = |id, by| frame_record(1 << 40, &stamped(sound(id, &[]), by));
+        let capture = [
+            limited_record(1, 2000),
+            limited_record(2, 1 << 31),
+            admit_record(2),
+            ahead_by(1, 2000),
+            ahead_by(1, 2001),
+            ahead_by(2, 2001),
+            limited_record(1, 9000),
+            record(5, &1_u64.to_be_bytes()),
+            record(4, &[0; 12]),
+        ]
+        .concat();
+        assert_eq!(
+            listed(&capture),
+            "avtp listing 1\n\
+            1 admitted\n\
+            2 refused 24\n\
+            3 admitted\n\
+            4 frame seq=ok dbc=ok fmt=ok mr=ok time=ahead offset=2000\n\
+            5 frame seq=break dbc=ok fmt=ok mr=ok time=far offset=2001\n\
+            6 frame seq=ok dbc=ok fmt=ok mr=ok time=ahead offset=2001\n\
+            7 refused 21\n\
+            8 refused 42\n\
+            9 refused 43\n\
+            end records=9\n"
         );
     }
 

@@ -20,7 +20,7 @@ pub fn carry_out<'a>(table: &mut StreamTable, record: &'a [u8]) -> Result<Outcom
         CaptureRecord::Frame { arrival, frame } => {
             table.receive(frame, arrival).map(Outcome::Frame)
         }
-        CaptureRecord::Admit(id) => table.admit(id).map(|()| Outcome::Admitted),
+        CaptureRecord::Admit { id, limit } => table.admit(id, limit).map(|()| Outcome::Admitted),
         CaptureRecord::Remove(id) => table.remove(id).map(|()| Outcome::Removed(id)),
     }
 }
@@ -28,7 +28,9 @@ pub fn carry_out<'a>(table: &mut StreamTable, record: &'a [u8]) -> Result<Outcom
 #[cfg(test)]
 mod tests {
     use super::*;
-    use crate::samples::{admit_record, frame_record, record, remove_record, sound, stamped};
+    use crate::samples::{
+        admit_record, frame_record, limited_record, record, remove_record, sound, stamped,
+    };
 
     #[test]
     fn each_kind_of_record() {
@@ -52,5 +54,10 @@ mod tests {
         assert_eq!(come_to(remove_record(7)), Ok((7, 0)));
         assert_eq!(come_to(remove_record(7)), Err(Refusal::RemovedNotAdmitted));
         assert_eq!(come_to(frame), Err(Refusal::StreamNotAdmitted));
+        assert_eq!(come_to(limited_record(7, 1 << 31)), Err(Refusal::LimitTooLarge));
+        assert_eq!(come_to(limited_record(7, 0)), Ok((1, 0)));
+        assert_eq!(come_to(limited_record(7, 1 << 31)), Err(Refusal::AlreadyAdmitted));
+        assert_eq!(come_to(admit_record(7)), Err(Refusal::AlreadyAdmitted));
+        assert_eq!(come_to(record(5, &[0; 8])), Err(Refusal::RecordLength));
     }
 }

@@ -14,10 +14,12 @@ pub enum TimeKind {
     Outside,
     /// Before the arrival.
     Late,
-    /// At the arrival or after it.
+    /// At the arrival or after it, by no more than the stream's transit limit.
     Ahead,
     /// As far before the arrival as after it (request #106).
     Unclear,
+    /// After the arrival by more than the stream's transit limit (request #107).
+    Far,
 }
 
 impl TimeKind {
@@ -30,12 +32,16 @@ impl TimeKind {
             TimeKind::Late => b"late",
             TimeKind::Ahead => b"ahead",
             TimeKind::Unclear => b"unclear",
+            TimeKind::Far => b"far",
         }
     }
 }
 
 /// The offset of half a wrap: 2^31 nanoseconds before the arrival, or as many after it.
 const HALF_A_WRAP: i32 = i32::MIN;
+
+/// The largest transit limit, in nanoseconds (request #107). No offset is above it.
+pub const LARGEST_LIMIT: u32 = i32::MAX as u32;
 
 /// A frame's presentation time, judged on its arrival.
 #[allow(dead_code)] // a listing doesn't print the time
@@ -54,8 +60,9 @@ impl Presentation {
 
     /// The presentation time that the 32-bit `stamp` stands for, being the one
     /// nearest to `arrival` (in nanoseconds). Half a wrap away two are equally near,
-    /// and neither is taken, whether it would be outside or not (request #106).
-    fn of_stamp(stamp: u32, arrival: u64) -> Presentation {
+    /// and neither is taken, whether it would be outside or not (request #106). An
+    /// offset above `limit` is far, unless the time is outside (request #107).
+    fn of_stamp(stamp: u32, arrival: u64, limit: u32) -> Presentation {
         // The difference modulo 2^32, read as a signed number.
         let offset = stamp.wrapping_sub(arrival as u32) as i32;
         if offset == HALF_A_WRAP {
@@ -63,22 +70,25 @@ impl Presentation {
         }
         match arrival.checked_add_signed(i64::from(offset)) {
             None => Presentation { kind: TimeKind::Outside, offset, time: 0 },
+            Some(time) if i64::from(offset) > i64::from(limit) => {
+                Presentation { kind: TimeKind::Far, offset, time }
+            }
             Some(time) if offset < 0 => Presentation { kind: TimeKind::Late, offset, time },
             Some(time) => Presentation { kind: TimeKind::Ahead, offset, time },
         }
     }
 
-    /// The presentation time of an accepted frame. With SPH 1 the stamp opens the
-    /// first source packet that starts in the frame, and tv isn't read; otherwise
-    /// it is the AVTP timestamp if that is valid.
-    pub fn of_frame(frame: &Frame, arrival: u64) -> Presentation {
+    /// The presentation time of an accepted frame, under its stream's transit limit.
+    /// With SPH 1 the stamp opens the first source packet that starts in the frame,
+    /// and tv isn't read; otherwise it is the AVTP timestamp if that is valid.
+    pub fn of_frame(frame: &Frame, arrival: u64, limit: u32) -> Presentation {
         let stamp = match (frame.cip.sph, frame.payload.len()) {
             (false, _) => frame.tv.then_some(frame.timestamp),
             (true, 1..=3) => return Presentation::without_time(TimeKind::Cut),
             (true, _) => source_packet_stamp(frame),
         };
         match stamp {
-            Some(stamp) => Presentation::of_stamp(stamp, arrival),
+            Some(stamp) => Presentation::of_stamp(stamp, arrival, limit),
             None => Presentation::without_time(TimeKind::None),
         }
     }
@@ -101,10 +111,16 @@ mod tests {
     use crate::refusal::Refusal;
     use crate::samples::{sound, stamped, with};
 
-    fn of_bytes(frame: &[u8], arrival: u64) -> (TimeKind, i32, u64) {
+    /// The presentation time of a frame under a transit limit.
+    fn limited(frame: &[u8], arrival: u64, limit: u32) -> (TimeKind, i32, u64) {
         let Presentation { kind, offset, time } =
-            Presentation::of_frame(&parse_frame(frame).unwrap(), arrival);
+            Presentation::of_frame(&parse_frame(frame).unwrap(), arrival, limit);
         (kind, offset, time)
+    }
+
+    /// The same without a record, which takes the largest limit.
+    fn of_bytes(frame: &[u8], arrival: u64) -> (TimeKind, i32, u64) {
+        limited(frame, arrival, LARGEST_LIMIT)
     }
 
     fn time(stamp: u32, arrival: u64) -> (TimeKind, i32, u64) {
@@ -129,11 +145,17 @@ mod tests {
 
     /// The presentation times of a stamp `offset` from `arrival`, which is the AVTP
     /// timestamp with SPH 0 and in the payload with SPH 1; both must be the same.
-    fn at_offset(offset: i32, arrival: u64) -> (TimeKind, i32, u64) {
+    fn limited_offset(offset: i32, arrival: u64, limit: u32) -> (TimeKind, i32, u64) {
         let stamp = (arrival as u32).wrapping_add_signed(offset);
+        let in_header = limited(&stamped(sound(1, &[]), stamp), arrival, limit);
         let in_payload = with(sound(1, &stamp.to_be_bytes()), 44, 4);
-        assert_eq!(of_bytes(&in_payload, arrival), time(stamp, arrival));
-        time(stamp, arrival)
+        assert_eq!(limited(&in_payload, arrival, limit), in_header);
+        in_header
+    }
+
+    /// The same under the largest limit.
+    fn at_offset(offset: i32, arrival: u64) -> (TimeKind, i32, u64) {
+        limited_offset(offset, arrival, LARGEST_LIMIT)
     }
 
     #[test]
@@ -170,6 +192,54 @@ mod tests {
         assert_eq!(at_offset(d, last), (TimeKind::Ahead, d, u64::MAX));
         assert_eq!(at_offset(d, last + 1), (TimeKind::Outside, d, 0));
         assert_eq!(at_offset(d, u64::MAX), (TimeKind::Outside, d, 0));
+    }
+
+    #[test]
+    fn above_the_limit_is_far() {
+        let arrival = 1 << 40;
+        for limit in [0, 1, 2, 255, 256, 65_536, 2_000_000, 2_147_483_645, 2_147_483_646] {
+            let d = limit as i32;
+            let time = arrival + u64::from(limit);
+            assert_eq!(limited_offset(d, arrival, limit), (TimeKind::Ahead, d, time));
+            assert_eq!(limited_offset(d + 1, arrival, limit), (TimeKind::Far, d + 1, time + 1));
+            let (kind, ..) = limited_offset(d - 1, arrival, limit);
+            assert_eq!(kind, if d == 0 { TimeKind::Late } else { TimeKind::Ahead });
+            let (kind, ..) = limited_offset(i32::MAX, arrival, limit);
+            assert_eq!(kind, TimeKind::Far);
+        }
+        // A limit that no admission gives is above every offset too.
+        for limit in [LARGEST_LIMIT, LARGEST_LIMIT + 1, u32::MAX] {
+            let d = 2_147_483_647;
+            let time = arrival + 2_147_483_647;
+            assert_eq!(limited_offset(d, arrival, limit), (TimeKind::Ahead, d, time));
+        }
+    }
+
+    #[test]
+    fn late_frames_are_not_far() {
+        for limit in [0, 1, 1000, LARGEST_LIMIT] {
+            for d in [-1_i32, -2, -1000, -1001, -2_147_483_647] {
+                let time = (1 << 40) - u64::from(d.unsigned_abs());
+                assert_eq!(limited_offset(d, 1 << 40, limit), (TimeKind::Late, d, time));
+            }
+        }
+    }
+
+    #[test]
+    fn outside_and_unclear_win_over_far() {
+        for limit in [0, 1, 1000, 2_147_483_646] {
+            // L + d at the largest time, and past it.
+            let d = limit as i32 + 1;
+            let last = u64::MAX - u64::from(limit) - 1;
+            assert_eq!(limited_offset(d, last, limit), (TimeKind::Far, d, u64::MAX));
+            assert_eq!(limited_offset(d, last + 1, limit), (TimeKind::Outside, d, 0));
+            assert_eq!(limited_offset(d, u64::MAX, limit), (TimeKind::Outside, d, 0));
+            assert_eq!(limited_offset(-d, u64::from(limit), limit), (TimeKind::Outside, -d, 0));
+            for arrival in [0, 1 << 31, 1 << 40, u64::MAX] {
+                let d = i32::MIN;
+                assert_eq!(limited_offset(d, arrival, limit), (TimeKind::Unclear, d, 0));
+            }
+        }
     }
 
     /// A frame with SPH 1, FN, DBC and DBS, whose block `i` opens with stamp 1000 + i.
@@ -268,7 +338,8 @@ mod tests {
         assert_eq!(parse_frame(&broken), Err(Refusal::BrokenBlock));
         let kind = |frame: &[u8], payload: &[u8]| {
             let frame = Frame { payload, ..parse_frame(frame).unwrap() };
-            let Presentation { kind, offset, time } = Presentation::of_frame(&frame, 0);
+            let Presentation { kind, offset, time } =
+                Presentation::of_frame(&frame, 0, LARGEST_LIMIT);
             assert_eq!(u64::from(offset.unsigned_abs()), time);
             (kind, time)
         };

@@ -25,6 +25,7 @@ pub enum Refusal {
     AlreadyAdmitted = 21,
     NoUnusedRecord = 22,
     RemovedNotAdmitted = 23,
+    LimitTooLarge = 24,
     CaptureEnds = 41,
     RecordLength = 42,
     RecordKind = 43,

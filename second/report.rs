@@ -1,4 +1,4 @@
-//! Prints the visit report of a capture (requests #104 and #106).
+//! Prints the visit report of a capture (requests #104, #106 and #107).
 //!
 //! `second_report [FILE]` goes through the capture named as `second_list` does; `-`,
 //! or no name, stands for standard input. Then it prints one line for each stream
@@ -7,7 +7,7 @@
 //! - the stream's id;
 //! - its accepted frames;
 //! - how many of them raised each flag: sequence, block, format, mr;
-//! - how many had each kind of time: none, cut, outside, late, ahead, unclear;
+//! - how many had each kind of time: none, cut, outside, late, ahead, unclear, far;
 //! - over those ahead or late, the smallest and the largest offset, the sum, and the
 //!   mean as that sum over its count, or `none` for each of the four;
 //! - how many ahead or late frames are not in these four, which are over the first

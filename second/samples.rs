@@ -51,9 +51,14 @@ pub fn frame_record(arrival: u64, frame: &[u8]) -> Vec<u8> {
     record(1, &[&arrival.to_le_bytes()[..], frame].concat())
 }
 
-/// The record of an admission.
+/// The record of an admission without a transit limit.
 pub fn admit_record(id: u64) -> Vec<u8> {
     record(2, &id.to_be_bytes())
+}
+
+/// The record of an admission with a transit limit (request #107).
+pub fn limited_record(id: u64, limit: u32) -> Vec<u8> {
+    record(5, &[&id.to_be_bytes()[..], &limit.to_le_bytes()].concat())
 }
 
 /// The record of a removal.

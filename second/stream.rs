@@ -18,6 +18,8 @@ pub struct Counts {
 pub struct StreamRecord {
     pub id: u64,
     pub in_use: bool,
+    /// The transit limit in nanoseconds, given on admission (request #107).
+    pub limit: u32,
     /// Whether a frame was accepted since admission.
     pub seen: bool,
     pub sequence: u8,
@@ -42,9 +44,9 @@ fn count(counter: &mut u32, raised: bool) {
 }
 
 impl StreamRecord {
-    /// A newly admitted stream, nothing seen.
-    pub fn admitted(id: u64) -> StreamRecord {
-        StreamRecord { id, in_use: true, ..StreamRecord::default() }
+    /// A stream newly admitted with a transit limit, nothing seen.
+    pub fn admitted(id: u64, limit: u32) -> StreamRecord {
+        StreamRecord { id, in_use: true, limit, ..StreamRecord::default() }
     }
 
     /// The flags that `frame` raises; none on the first frame.
@@ -81,6 +83,7 @@ impl StreamRecord {
 mod tests {
     use super::*;
     use crate::frame::parse_frame;
+    use crate::presentation::LARGEST_LIMIT;
     use crate::samples::{sound, with};
 
     /// Steps a record; the letters of the flags raised.
@@ -92,12 +95,31 @@ mod tests {
             .collect()
     }
 
+    /// Stream 1, newly admitted without a transit limit.
+    fn newly_admitted() -> StreamRecord {
+        StreamRecord::admitted(1, LARGEST_LIMIT)
+    }
+
+    #[test]
+    fn admitted_with_a_limit() {
+        for limit in [0, 1, 2_000_000, LARGEST_LIMIT] {
+            let mut record = StreamRecord::admitted(7, limit);
+            let zero = StreamRecord::default();
+            assert_eq!(record, StreamRecord { id: 7, in_use: true, limit, ..zero });
+            // Frames don't change the limit.
+            for sequence in [1, 2, 7] {
+                raised(&mut record, &with(sound(7, &[0; 8]), 20, sequence));
+                assert_eq!(record.limit, limit);
+            }
+        }
+    }
+
     #[test]
     fn m6_m7_next_block_count() {
-        let mut record = StreamRecord::admitted(1);
+        let mut record = newly_admitted();
         raised(&mut record, &with(sound(1, &[0; 32]), 45, 250));
         assert_eq!(record.next_block, 2);
-        let mut record = StreamRecord::admitted(1);
+        let mut record = newly_admitted();
         let frame = with(sound(1, &[0; 4 * 367]), 45, 10);
         assert_eq!(parse_frame(&frame).unwrap().blocks, 367);
         raised(&mut record, &frame);
@@ -106,7 +128,7 @@ mod tests {
 
     #[test]
     fn m8_sequence_wraps() {
-        let mut record = StreamRecord::admitted(1);
+        let mut record = newly_admitted();
         for sequence in [255, 0, 1] {
             assert_eq!(raised(&mut record, &with(sound(1, &[]), 20, sequence)), "");
         }
@@ -116,7 +138,7 @@ mod tests {
 
     #[test]
     fn flags_and_counts() {
-        let mut record = StreamRecord::admitted(1);
+        let mut record = newly_admitted();
         let frame = |sequence, dbc| with(with(sound(1, &[0; 8]), 20, sequence), 45, dbc);
         assert_eq!(raised(&mut record, &with(frame(7, 9), 19, 0x89)), "");
         assert_eq!(raised(&mut record, &with(frame(8, 11), 19, 0x89)), "");
@@ -139,6 +161,7 @@ mod tests {
             StreamRecord {
                 id: 1,
                 in_use: true,
+                limit: LARGEST_LIMIT,
                 seen: true,
                 sequence: 19,
                 next_block: 25,
@@ -157,7 +180,7 @@ mod tests {
 
     #[test]
     fn counts_stay_at_the_greatest() {
-        let mut record = StreamRecord::admitted(1);
+        let mut record = newly_admitted();
         raised(&mut record, &sound(1, &[]));
         let full = u32::MAX;
         record.counts = Counts {
@@ -178,7 +201,7 @@ mod tests {
 
     #[test]
     fn empty_frames_keep_the_block_count() {
-        let mut record = StreamRecord::admitted(1);
+        let mut record = newly_admitted();
         let frame = |sequence, dbc, blocks: usize| {
             with(with(sound(1, &vec![0; 4 * blocks]), 20, sequence), 45, dbc)
         };

@@ -1,7 +1,7 @@
 //! The stream table: admission, removal and receiving.
 
 use crate::frame::{parse_frame, Frame};
-use crate::presentation::Presentation;
+use crate::presentation::{Presentation, LARGEST_LIMIT};
 use crate::refusal::Refusal;
 use crate::stream::{Flags, StreamRecord};
 
@@ -33,15 +33,18 @@ impl StreamTable {
         self.records.iter_mut().find(|record| record.id == id && record.in_use)
     }
 
-    /// Admits a stream at the lowest unused place.
-    pub fn admit(&mut self, id: u64) -> Result<(), Refusal> {
+    /// Admits a stream with a transit limit, at the lowest unused place.
+    pub fn admit(&mut self, id: u64, limit: u32) -> Result<(), Refusal> {
         if self.find(id).is_some() {
             return Err(Refusal::AlreadyAdmitted);
+        }
+        if limit > LARGEST_LIMIT {
+            return Err(Refusal::LimitTooLarge);
         }
         let Some(unused) = self.records.iter_mut().find(|record| !record.in_use) else {
             return Err(Refusal::NoUnusedRecord);
         };
-        *unused = StreamRecord::admitted(id);
+        *unused = StreamRecord::admitted(id, limit);
         Ok(())
     }
 
@@ -67,8 +70,8 @@ impl StreamTable {
         let Some(record) = self.find(frame.stream_id) else {
             return Err(Refusal::StreamNotAdmitted);
         };
+        let presentation = Presentation::of_frame(&frame, arrival, record.limit);
         let flags = record.step(&frame);
-        let presentation = Presentation::of_frame(&frame, arrival);
         Ok(Reception { frame, flags, presentation })
     }
 }
@@ -79,10 +82,10 @@ mod tests {
     use crate::presentation::TimeKind;
     use crate::samples::{of_length, sound, stamped, with};
 
-    /// A table with one stream admitted.
+    /// A table with one stream admitted, without a transit limit.
     fn table(id: u64) -> StreamTable {
         let mut table = StreamTable::new();
-        table.admit(id).unwrap();
+        table.admit(id, LARGEST_LIMIT).unwrap();
         table
     }
 
@@ -160,15 +163,15 @@ mod tests {
         let mut streams = StreamTable::new();
         assert_eq!(streams.remove(0), Err(Refusal::RemovedNotAdmitted));
         for id in 0..64 {
-            assert_eq!(streams.admit(id), Ok(()));
+            assert_eq!(streams.admit(id, id as u32), Ok(()));
         }
-        assert_eq!(streams.admit(63), Err(Refusal::AlreadyAdmitted));
-        assert_eq!(streams.admit(64), Err(Refusal::NoUnusedRecord));
+        assert_eq!(streams.admit(63, 0), Err(Refusal::AlreadyAdmitted));
+        assert_eq!(streams.admit(64, 0), Err(Refusal::NoUnusedRecord));
         assert_eq!(streams.remove(5), Ok(()));
         assert_eq!(streams.records[5], StreamRecord::default());
         assert_eq!(streams.remove(9), Ok(()));
-        assert_eq!(streams.admit(u64::MAX), Ok(()));
-        assert_eq!(streams.records[5], StreamRecord::admitted(u64::MAX));
+        assert_eq!(streams.admit(u64::MAX, 7), Ok(()));
+        assert_eq!(streams.records[5], StreamRecord::admitted(u64::MAX, 7));
         assert_eq!(streams.records[9], StreamRecord::default());
         let ids: Vec<u64> = streams.admitted().map(|record| record.id).collect();
         let lowest = [0, 1, 2, 3, 4, u64::MAX, 6, 7, 8, 10];
@@ -182,8 +185,70 @@ mod tests {
         assert_eq!(streams.receive(&first, 0).unwrap().flags, Flags::default());
         streams.remove(0).unwrap();
         assert!(streams.receive(&sound(0, &[]), 0).is_err());
-        streams.admit(0).unwrap();
+        streams.admit(0, 0).unwrap();
         let anew = with(sound(0, &[]), 20, 9);
         assert_eq!(streams.receive(&anew, 0).unwrap().flags, Flags::default());
+    }
+
+    /// The kind of time of a frame of the stream that is ahead by this much.
+    fn kind_ahead_by(streams: &mut StreamTable, id: u64, by: u32) -> TimeKind {
+        let frame = stamped(sound(id, &[]), 1000 + by);
+        streams.receive(&frame, 1000).unwrap().presentation.kind
+    }
+
+    #[test]
+    fn limits_of_admissions() {
+        let too_large = LARGEST_LIMIT + 1;
+        let mut streams = StreamTable::new();
+        assert_eq!(streams.admit(0, too_large), Err(Refusal::LimitTooLarge));
+        assert_eq!(streams.admit(0, u32::MAX), Err(Refusal::LimitTooLarge));
+        assert_eq!(streams.records, StreamTable::new().records);
+        for id in 0..64 {
+            assert_eq!(streams.admit(id, LARGEST_LIMIT), Ok(()));
+            // Of two refusals, that of the limit comes second.
+            assert_eq!(streams.admit(id, too_large), Err(Refusal::AlreadyAdmitted));
+            assert_eq!(streams.admit(id, u32::MAX), Err(Refusal::AlreadyAdmitted));
+        }
+        // And then before that of the full table.
+        let before = streams.records;
+        assert_eq!(streams.admit(64, LARGEST_LIMIT), Err(Refusal::NoUnusedRecord));
+        assert_eq!(streams.admit(64, too_large), Err(Refusal::LimitTooLarge));
+        assert_eq!(streams.admit(64, u32::MAX), Err(Refusal::LimitTooLarge));
+        assert_eq!(streams.records, before);
+    }
+
+    #[test]
+    fn each_stream_has_its_own_limit() {
+        let mut streams = table(1);
+        streams.admit(2, 0).unwrap();
+        streams.admit(3, 50).unwrap();
+        for _ in 0..2 {
+            for (id, limit) in [(3, 50), (2, 0), (1, LARGEST_LIMIT)] {
+                assert_eq!(kind_ahead_by(&mut streams, id, limit), TimeKind::Ahead);
+                if limit < LARGEST_LIMIT {
+                    assert_eq!(kind_ahead_by(&mut streams, id, limit + 1), TimeKind::Far);
+                }
+            }
+        }
+    }
+
+    #[test]
+    fn limits_are_kept_until_removal() {
+        let mut streams = table(1);
+        streams.admit(2, 50).unwrap();
+        // Neither refused admissions nor refused frames change them.
+        for other in [0, 49, 51, LARGEST_LIMIT, u32::MAX] {
+            assert_eq!(streams.admit(2, other), Err(Refusal::AlreadyAdmitted));
+            assert!(streams.receive(&with(sound(2, &[]), 44, 0x18), 1000).is_err());
+            assert_eq!(kind_ahead_by(&mut streams, 2, 50), TimeKind::Ahead);
+            assert_eq!(kind_ahead_by(&mut streams, 2, 51), TimeKind::Far);
+        }
+        for limit in [60, 40, 0] {
+            streams.remove(2).unwrap();
+            assert_eq!(streams.records[1], StreamRecord::default());
+            streams.admit(2, limit).unwrap();
+            assert_eq!(kind_ahead_by(&mut streams, 2, limit), TimeKind::Ahead);
+            assert_eq!(kind_ahead_by(&mut streams, 2, limit + 1), TimeKind::Far);
+        }
     }
 }

@@ -1,5 +1,5 @@
 //! A stream's visit: what the presentation times of its frames add up to
-//! (requests #104 and #106).
+//! (requests #104, #106 and #107).
 
 use crate::presentation::{Presentation, TimeKind};
 
@@ -16,6 +16,7 @@ pub struct KindCounts {
     pub late: u64,
     pub ahead: u64,
     pub unclear: u64,
+    pub far: u64,
 }
 
 /// What one offset or more come to. The mean is the sum over the count.
@@ -53,6 +54,7 @@ impl KindCounts {
             TimeKind::Late => &mut self.late,
             TimeKind::Ahead => &mut self.ahead,
             TimeKind::Unclear => &mut self.unclear,
+            TimeKind::Far => &mut self.far,
         }
     }
 }
@@ -96,13 +98,14 @@ impl Visit {
 mod tests {
     use super::*;
 
-    const KINDS: [TimeKind; 6] = [
+    const KINDS: [TimeKind; 7] = [
         TimeKind::None,
         TimeKind::Cut,
         TimeKind::Outside,
         TimeKind::Late,
         TimeKind::Ahead,
         TimeKind::Unclear,
+        TimeKind::Far,
     ];
 
     /// The least offset of a late frame; half a wrap, one below it, is unclear.
@@ -137,7 +140,8 @@ mod tests {
                 visit.add(&time(kind, 7));
             }
         }
-        let kinds = KindCounts { none: 1, cut: 2, outside: 3, late: 4, ahead: 5, unclear: 6 };
+        let kinds =
+            KindCounts { none: 1, cut: 2, outside: 3, late: 4, ahead: 5, unclear: 6, far: 7 };
         assert_eq!(visit.kinds, kinds);
         let nine = Summary { smallest: 7, largest: 7, sum: 63, count: 9 };
         assert_eq!((visit.summary, visit.not_summed), (Some(nine), 0));
@@ -149,10 +153,12 @@ mod tests {
         for kind in [TimeKind::None, TimeKind::Cut, TimeKind::Outside, TimeKind::Unclear] {
             visit.add(&time(kind, i32::MIN));
         }
+        visit.add(&time(TimeKind::Far, i32::MAX));
         assert_eq!((visit.summary, visit.not_summed), (None, 0));
         visit.add(&time(TimeKind::Late, -3));
         visit.add(&time(TimeKind::Outside, i32::MAX));
         visit.add(&time(TimeKind::Unclear, i32::MIN));
+        visit.add(&time(TimeKind::Far, i32::MAX));
         visit.add(&time(TimeKind::Ahead, 5));
         let two = Summary { smallest: -3, largest: 5, sum: 2, count: 2 };
         assert_eq!((visit.summary, visit.not_summed), (Some(two), 0));
@@ -184,12 +190,26 @@ mod tests {
         offsets.extend([i32::MAX, LEAST, 0]);
         assert_eq!(summed(&offsets), (-7, -7, -7_000_000, 1_000_000));
         let mut visit = visit(&offsets);
-        // An unclear one isn't among them.
+        // An unclear one isn't among them, and no far one.
         visit.add(&time(TimeKind::Unclear, i32::MIN));
+        visit.add(&time(TimeKind::Far, 9));
         assert_eq!(visit.not_summed, 3);
         // They are counted by kind all the same.
-        let kinds = KindCounts { late: 1_000_001, ahead: 2, unclear: 1, ..KindCounts::default() };
+        let kinds =
+            KindCounts { late: 1_000_001, ahead: 2, unclear: 1, far: 1, ..KindCounts::default() };
         assert_eq!(visit.kinds, kinds);
+    }
+
+    #[test]
+    fn far_frames_take_no_place_among_the_million() {
+        let mut visit = visit(&[-7; 999_999]);
+        visit.add(&time(TimeKind::Far, i32::MAX));
+        visit.add(&time(TimeKind::Ahead, 9));
+        let all = Summary { smallest: -7, largest: 9, sum: -6_999_984, count: 1_000_000 };
+        assert_eq!((visit.summary, visit.not_summed), (Some(all), 0));
+        visit.add(&time(TimeKind::Far, i32::MAX));
+        assert_eq!((visit.summary, visit.not_summed), (Some(all), 0));
+        assert_eq!(visit.kinds.far, 2);
     }
 
     #[test]

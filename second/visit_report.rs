@@ -1,4 +1,4 @@
-//! The visit report over a whole capture (requests #104 and #106).
+//! The visit report over a whole capture (requests #104, #106 and #107).
 
 use crate::outcome::{carry_out, Outcome};
 use crate::reading::{read_records, Failure};
@@ -50,10 +50,10 @@ impl Report {
 fn write_line(out: &mut impl Write, record: &StreamRecord, visit: &Visit) -> io::Result<()> {
     let Counts { frames, sequence_breaks, block_breaks, format_changes, mr_changes } =
         record.counts;
-    let KindCounts { none, cut, outside, late, ahead, unclear } = visit.kinds;
+    let KindCounts { none, cut, outside, late, ahead, unclear, far } = visit.kinds;
     write!(out, "{} {frames} ", record.id)?;
     write!(out, "{sequence_breaks} {block_breaks} {format_changes} {mr_changes} ")?;
-    write!(out, "{none} {cut} {outside} {late} {ahead} {unclear} ")?;
+    write!(out, "{none} {cut} {outside} {late} {ahead} {unclear} {far} ")?;
     match visit.summary {
         Some(Summary { smallest, largest, sum, count }) => {
             write!(out, "{smallest} {largest} {sum} {sum}/{count} ")?;
@@ -83,7 +83,8 @@ mod tests {
     use super::*;
     use crate::capture::LONGEST_RECORD;
     use crate::samples::{
-        admit_record, frame_record, record, remove_record, sound, stamped, with, Slow,
+        admit_record, frame_record, limited_record, record, remove_record, sound, stamped, with,
+        Slow,
     };
 
     /// Reports what `input` gives: the lines, and the answer.
@@ -107,10 +108,10 @@ mod tests {
     }
 
     /// A line for stream 1 with no frame.
-    const NO_FRAME: &str = "1 0 0 0 0 0 0 0 0 0 0 0 none none none none 0\n";
+    const NO_FRAME: &str = "1 0 0 0 0 0 0 0 0 0 0 0 0 none none none none 0\n";
 
     /// A line for stream 1 with one frame, ahead by 2000.
-    const ONE_FRAME: &str = "1 1 0 0 0 0 0 0 0 0 1 0 2000 2000 2000 2000/1 0\n";
+    const ONE_FRAME: &str = "1 1 0 0 0 0 0 0 0 0 1 0 0 2000 2000 2000 2000/1 0\n";
 
     #[test]
     fn example_of_document_01() {
@@ -134,7 +135,7 @@ mod tests {
         let dbc = with(with(fmt.clone(), 20, 3), 45, 9);
         let sph = with(dbc.clone(), 44, 4);
         let capture = [
-            admit_record(1),
+            limited_record(1, 5),
             frame_record(1000, &stamped(first.clone(), 1005)),
             frame_record(1000, &stamped(mr, 1005)),
             frame_record(1000, &stamped(fmt, 1005)),
@@ -146,9 +147,12 @@ mod tests {
             // As at first, so that all four differ; its time is below 0.
             frame_record(1000, &stamped(first.clone(), -1_i32 as u32)),
             // Half a wrap away, with the same sequence number.
-            frame_record(1000, &stamped(first, 2_147_484_648)),
+            frame_record(1000, &stamped(first.clone(), 2_147_484_648)),
+            // Above the limit, with the same sequence number.
+            frame_record(1000, &stamped(first.clone(), 1006)),
+            frame_record(1000, &stamped(first, 2_147_484_647)),
         ];
-        assert_eq!(reported(&capture), "1 8 4 2 3 2 1 0 1 1 4 1 -20 5 0 0/5 0\n");
+        assert_eq!(reported(&capture), "1 10 6 2 3 2 1 0 1 1 4 1 2 -20 5 0 0/5 0\n");
     }
 
     #[test]
@@ -159,21 +163,37 @@ mod tests {
         };
         // The sequence number is the same in all frames.
         let (half, least, greatest) = (i32::MIN, -2_147_483_647, 2_147_483_647);
-        assert_eq!(of_offsets(&[half; 3]), "1 3 2 0 0 0 0 0 0 0 0 3 none none none none 0\n");
+        assert_eq!(of_offsets(&[half; 3]), "1 3 2 0 0 0 0 0 0 0 0 3 0 none none none none 0\n");
         assert_eq!(
             of_offsets(&[half, least, half]),
-            "1 3 2 0 0 0 0 0 0 1 0 2 -2147483647 -2147483647 -2147483647 -2147483647/1 0\n"
+            "1 3 2 0 0 0 0 0 0 1 0 2 0 -2147483647 -2147483647 -2147483647 -2147483647/1 0\n"
         );
         assert_eq!(
             of_offsets(&[greatest, half, least]),
-            "1 3 2 0 0 0 0 0 0 1 1 1 -2147483647 2147483647 0 0/2 0\n"
+            "1 3 2 0 0 0 0 0 0 1 1 1 0 -2147483647 2147483647 0 0/2 0\n"
+        );
+    }
+
+    #[test]
+    fn far_frames_have_no_part_in_the_sums() {
+        let of_offsets = |offsets: &[i32]| {
+            let frames = offsets.iter().map(|&offset| offset_record(1, offset));
+            reported(&[vec![limited_record(1, 9)], frames.collect()].concat())
+        };
+        // The sequence number is the same in all frames.
+        assert_eq!(of_offsets(&[10; 3]), "1 3 2 0 0 0 0 0 0 0 0 0 3 none none none none 0\n");
+        assert_eq!(of_offsets(&[10, 9, 10]), "1 3 2 0 0 0 0 0 0 0 1 0 2 9 9 9 9/1 0\n");
+        let greatest = i32::MAX;
+        assert_eq!(
+            of_offsets(&[greatest, -3, greatest, 5]),
+            "1 4 3 0 0 0 0 0 0 1 1 0 2 -3 5 2 2/2 0\n"
         );
     }
 
     #[test]
     fn in_table_order() {
-        let none = "0 0 0 0 0 0 0 0 0 0 0 none none none none 0";
-        let one = "1 0 0 0 0 0 0 0 0 1 0 4 4 4 4/1 0";
+        let none = "0 0 0 0 0 0 0 0 0 0 0 0 none none none none 0";
+        let one = "1 0 0 0 0 0 0 0 0 1 0 0 4 4 4 4/1 0";
         let greatest = u64::MAX;
         let capture = [
             admit_record(7),
@@ -202,9 +222,10 @@ mod tests {
     #[test]
     fn removal_drops_the_numbers() {
         let mut capture = vec![
-            admit_record(1),
+            limited_record(1, i32::MAX as u32 - 1),
             offset_record(1, i32::MIN),
             offset_record(1, i32::MIN + 1),
+            offset_record(1, i32::MAX - 1),
             offset_record(1, i32::MAX),
             remove_record(1),
             offset_record(1, 6),
@@ -222,9 +243,12 @@ mod tests {
             admit_record(1),
             offset_record(1, 2000),
             admit_record(1),
+            limited_record(1, 0),
+            limited_record(2, u32::MAX),
             remove_record(2),
             record(3, &[0; 7]),
             record(4, &1_u64.to_be_bytes()),
+            record(5, &2_u64.to_be_bytes()),
             frame_record(0, &sound(1, &[])[..41]),
             frame_record(0, &with(sound(1, &[]), 18, 1)),
             frame_record(0, &with(sound(1, &[]), 44, 0x18)),

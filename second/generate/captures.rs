@@ -10,18 +10,18 @@ pub const SMALL: usize = 56_000;
 pub struct Capture {
     pub bytes: Vec<u8>,
     /// No further record is put in once the capture has this many bytes.
-    limit: usize,
+    size: usize,
     /// Where the last record put in starts.
     last: usize,
 }
 
 impl Capture {
-    pub fn new(limit: usize) -> Capture {
-        Capture { bytes: Vec::new(), limit, last: 0 }
+    pub fn new(size: usize) -> Capture {
+        Capture { bytes: Vec::new(), size, last: 0 }
     }
 
     pub fn full(&self) -> bool {
-        self.bytes.len() >= self.limit
+        self.bytes.len() >= self.size
     }
 
     /// Puts in a record: its length, then what the length counts.
@@ -43,6 +43,11 @@ impl Capture {
         self.kind(2, &id.to_be_bytes());
     }
 
+    /// Admits a stream with a transit limit (request #107).
+    pub fn admit_limited(&mut self, id: u64, limit: u32) {
+        self.kind(5, &[&id.to_be_bytes()[..], &limit.to_le_bytes()].concat());
+    }
+
     pub fn remove(&mut self, id: u64) {
         self.kind(3, &id.to_be_bytes());
     }
@@ -60,7 +65,7 @@ impl Capture {
         let kept = match chance.below(4) {
             0 => whole - 1,
             1 => chance.below(whole),
-            _ => chance.pick(&[1, 1, 2, 3, 4, 5, 11, 12, 13, 50, 60]).min(whole - 1),
+            _ => chance.pick(&[1, 1, 2, 3, 4, 5, 11, 12, 13, 14, 15, 50, 60]).min(whole - 1),
         };
         self.bytes.truncate(self.last + kept);
     }

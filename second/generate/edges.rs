@@ -4,6 +4,7 @@ use crate::captures::{Capture, SMALL};
 use crate::chance::Chance;
 use crate::damage::{spoil, spoiled, FIELD_CHECKS};
 use crate::frames::{block_size, Frame};
+use crate::limits;
 use crate::senders::{stream_ids, Sender};
 use crate::times::{around_half_a_wrap, arrival, offset, stamp};
 
@@ -89,9 +90,11 @@ pub fn lengths(chance: &mut Chance) -> Capture {
     capture
 }
 
-/// Admissions past the table's end, removals, and admissions again.
+/// Admissions past the table's end, removals, and admissions again; in every second
+/// capture with transit limits, some too large.
 pub fn admissions(chance: &mut Chance) -> Capture {
     let mut capture = Capture::new(SMALL);
+    let limited = chance.flip();
     let count = chance.within(60, 75);
     let ids = stream_ids(chance, count);
     let mut senders: Vec<Sender> = ids.iter().map(|&id| Sender::new(chance, id)).collect();
@@ -102,7 +105,7 @@ pub fn admissions(chance: &mut Chance) -> Capture {
         capture.remove(ids[0]);
     }
     for &id in &ids {
-        capture.admit(id);
+        limits::admit(chance, &mut capture, id, limited);
     }
     for _ in 0..chance.within(20, 120) {
         if capture.full() {
@@ -111,9 +114,12 @@ pub fn admissions(chance: &mut Chance) -> Capture {
         let which = chance.below(count);
         let at = arrival(chance);
         match chance.below(6) {
-            0 => capture.admit(ids[which]),
+            0 => limits::admit(chance, &mut capture, ids[which], limited),
             1 | 2 => capture.remove(ids[which]),
-            3 => capture.admit(chance.next()),
+            3 => {
+                let id = chance.next();
+                limits::admit(chance, &mut capture, id, limited);
+            }
             _ => capture.frame(at, &senders[which].send(chance, at).bytes()),
         }
     }
@@ -123,13 +129,13 @@ pub fn admissions(chance: &mut Chance) -> Capture {
 /// Record lengths and kinds at their edges.
 pub fn records(chance: &mut Chance) -> Capture {
     let mut capture = Capture::new(SMALL);
-    let kinds = [0, 1, 1, 2, 2, 3, 3, 4, 5, 255, 256, 257, 512, 65_535];
+    let kinds = [0, 1, 1, 2, 2, 3, 3, 4, 5, 5, 6, 255, 256, 257, 512, 1280, 1281, 65_535];
     for _ in 0..chance.within(10, 80) {
         if capture.full() {
             break;
         }
         let kind: u16 = chance.pick(&kinds);
-        let length = match chance.below(12) {
+        let length = match chance.below(15) {
             0 => 0,
             1 => 1,
             2 => 2,
@@ -138,6 +144,8 @@ pub fn records(chance: &mut Chance) -> Capture {
             5 => 11,
             6 => chance.within(2, 70),
             7 if chance.one_in(12) => 65_535,
+            8 => chance.pick(&[13, 15]),
+            9 | 10 => 14,
             _ => 10,
         };
         let mut counted = kind.to_le_bytes().to_vec();
@@ -151,10 +159,15 @@ pub fn records(chance: &mut Chance) -> Capture {
     capture
 }
 
-/// Every offset and arrival at the edges, from the timestamp or the payload.
+/// Every offset and arrival at the edges, from the timestamp or the payload; in every
+/// second capture under a transit limit.
 pub fn times(chance: &mut Chance) -> Capture {
     let mut capture = Capture::new(SMALL);
-    capture.admit(3);
+    if chance.flip() {
+        capture.admit(3);
+    } else {
+        capture.admit_limited(3, limits::allowed(chance));
+    }
     let mut frame = Frame::sound(chance, 3);
     for _ in 0..150 {
         let (at, offset) = if chance.one_in(4) {

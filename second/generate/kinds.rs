@@ -6,6 +6,7 @@ use crate::edges::{admissions, blocks, lengths, padding_counts, records, refusal
 use crate::noise::{noise, turned_bits, turned_bytes};
 use crate::source_packets::source_packets;
 use crate::traffic::{cut, long, traffic};
+use crate::transit::transit_limits;
 use crate::visits::visits;
 
 /// The capture of this index.
@@ -17,7 +18,7 @@ pub fn capture(seed: u64, index: u64) -> Vec<u8> {
     if index % 100 == 50 {
         return long(chance).bytes;
     }
-    let capture = match index % 17 {
+    let capture = match index % 19 {
         0 => refusals(chance),
         1 => lengths(chance),
         2 => admissions(chance),
@@ -31,6 +32,7 @@ pub fn capture(seed: u64, index: u64) -> Vec<u8> {
         12 => source_packets(chance),
         13 | 14 => visits(chance),
         15 => padding_counts(chance),
+        16 | 17 => transit_limits(chance),
         _ => {
             let records = chance.within(5, 190);
             traffic(chance, SMALL, records)

@@ -26,6 +26,7 @@ mod damage;
 mod edges;
 mod frames;
 mod kinds;
+mod limits;
 mod measuring;
 mod million;
 mod noise;
@@ -35,6 +36,7 @@ mod source_packets;
 mod ticks;
 mod times;
 mod traffic;
+mod transit;
 mod visits;
 
 use std::fs;

@@ -15,15 +15,24 @@ const MOST_SUMMED: u64 = 1_000_000;
 /// later ones here.
 const FIRST_ARRIVAL: u64 = 1 << 40;
 
+/// The transit limits of the three streams (request #107).
+const OVER_LIMIT: u32 = 2_000_000;
+const EXACT_LIMIT: u32 = 2_147_483_646;
+const UNDER_LIMIT: u32 = 0;
+
 /// Puts in, for each stream, a frame without a stamp, one whose time is below 0, one
-/// half a wrap away and an admission that is refused; none of them counts towards the
-/// million.
+/// half a wrap away, two that are far and two admissions that are refused; none of them
+/// counts towards the million.
 fn put_others(chance: &mut Chance, capture: &mut Capture, visitors: [&mut Visitor; 3]) {
     for visitor in visitors {
         visitor.send(chance, capture, (FIRST_ARRIVAL, None));
         visitor.send(chance, capture, (0, Some(LEAST_CLEAR)));
         visitor.send(chance, capture, (FIRST_ARRIVAL, Some(HALF_A_WRAP)));
+        for offset in [visitor.limit() as i32 + 1, i32::MAX] {
+            visitor.send(chance, capture, (FIRST_ARRIVAL, Some(offset)));
+        }
         capture.admit(visitor.id());
+        capture.admit_limited(visitor.id(), 7);
     }
 }
 
@@ -35,23 +44,23 @@ pub fn write_million(path: &Path) -> io::Result<()> {
     let chance = &mut Chance::new(104, 0);
     let mut capture = Capture::new(usize::MAX);
     let [mut over, mut exact, mut under] = [3, 1, 2].map(|id| Visitor::new(chance, id));
-    for id in [over.id(), exact.id(), under.id()] {
-        capture.admit(id);
-    }
+    over.admit_limited(&mut capture, OVER_LIMIT);
+    capture.admit(exact.id());
+    under.admit_limited(&mut capture, UNDER_LIMIT);
     // The numbers up to a removal are dropped.
     for offset in [-5, 5, 0] {
         exact.send(chance, &mut capture, (FIRST_ARRIVAL, Some(offset)));
     }
     capture.remove(exact.id());
-    capture.admit(exact.id());
+    exact.admit_limited(&mut capture, EXACT_LIMIT);
 
     for round in 1..=MOST_SUMMED {
         let at = FIRST_ARRIVAL + 125_000 * round;
         let near = chance.below(2_000_001) as i32 - 1_000_000;
         over.send(chance, &mut capture, (at, Some(near)));
         // The millionth is one that shows.
-        let far = if round < MOST_SUMMED { i32::MAX } else { LEAST_CLEAR };
-        exact.send(chance, &mut capture, (at, Some(far)));
+        let wide = if round < MOST_SUMMED { EXACT_LIMIT as i32 } else { LEAST_CLEAR };
+        exact.send(chance, &mut capture, (at, Some(wide)));
         if round < MOST_SUMMED {
             under.send(chance, &mut capture, (at, Some(LEAST_CLEAR)));
         }
@@ -61,7 +70,8 @@ pub fn write_million(path: &Path) -> io::Result<()> {
         capture.write_out(&mut out)?;
     }
 
-    for offset in [i32::MAX, LEAST_CLEAR, LEAST_CLEAR, -1, 0, LEAST_CLEAR, i32::MAX] {
+    let most = OVER_LIMIT as i32;
+    for offset in [most, LEAST_CLEAR, LEAST_CLEAR, -1, 0, LEAST_CLEAR, most] {
         over.send(chance, &mut capture, (FIRST_ARRIVAL, Some(offset)));
     }
     put_others(chance, &mut capture, [&mut over, &mut exact, &mut under]);

@@ -15,7 +15,7 @@ pub fn noise(chance: &mut Chance) -> Capture {
             let length = chance.within(0, 90);
             let mut counted = chance.bytes(length);
             if length >= 2 && !chance.one_in(4) {
-                counted[0] = chance.below(5) as u8;
+                counted[0] = chance.below(7) as u8;
                 counted[1] = 0;
             }
             capture.record(&counted);

@@ -43,13 +43,40 @@ pub fn offset(chance: &mut Chance) -> i32 {
     }
 }
 
+/// An arrival from which every offset but half a wrap leads to a time, often the first
+/// or the last of these.
+pub fn inside(chance: &mut Chance) -> u64 {
+    let (first, last) = ((1 << 31) - 1, (1u64 << 31).wrapping_neg());
+    match chance.below(4) {
+        0 => first,
+        1 => last,
+        _ => first + chance.next() % (last - first),
+    }
+}
+
+/// The arrival from which an offset below 0 leads to the first time, and another to the
+/// last.
+fn to_an_end(offset: i32) -> u64 {
+    let end: u64 = if offset < 0 { 0 } else { u64::MAX };
+    end.wrapping_add_signed(-i64::from(offset))
+}
+
+/// An arrival from which an offset leads to the first or the last time or to a neighbour
+/// of that, or one from which it leads to a time, or any.
+pub fn arrival_for(chance: &mut Chance, offset: i32) -> u64 {
+    match chance.below(4) {
+        0 => to_an_end(offset).wrapping_add_signed(chance.pick(&[-1, 0, 1])),
+        1 => arrival(chance),
+        _ => inside(chance),
+    }
+}
+
 /// An arrival, and an offset of half a wrap or one to either side of it. The arrival is
 /// the first or the last of all, or one from which the offset leads to the first or the
 /// last time, or a neighbour of that.
 pub fn around_half_a_wrap(chance: &mut Chance) -> (u64, i32) {
     let offset = chance.pick(&[HALF_A_WRAP, LEAST_CLEAR, i32::MAX]);
-    let end: u64 = if offset < 0 { 0 } else { u64::MAX };
-    let edge = end.wrapping_add_signed(-i64::from(offset));
+    let edge = to_an_end(offset);
     (chance.pick(&[edge - 1, edge, edge + 1, 0, u64::MAX]), offset)
 }
 

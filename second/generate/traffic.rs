@@ -4,6 +4,7 @@ use crate::captures::{Capture, SMALL};
 use crate::chance::Chance;
 use crate::damage::{spoiled, CHECKS};
 use crate::frames::Frame;
+use crate::limits::{self, LARGEST_LIMIT};
 use crate::senders::{stream_count, stream_ids, Sender};
 use crate::times::arrival;
 
@@ -49,21 +50,23 @@ fn send_with_trouble(chance: &mut Chance, capture: &mut Capture, sender: &mut Se
 
 /// Puts in a record of the greatest length, or nearly.
 fn longest_record(chance: &mut Chance, capture: &mut Capture) {
-    let kind = chance.pick(&[1, 1, 2, 4]);
+    let kind = chance.pick(&[1, 1, 2, 4, 5]);
     let body = vec![0x5A; 65_533 - chance.below(3)];
     capture.kind(kind, &body);
 }
 
-/// Senders whose frames interleave, with all that goes wrong under way.
-pub fn traffic(chance: &mut Chance, limit: usize, records: usize) -> Capture {
-    let mut capture = Capture::new(limit);
+/// Senders whose frames interleave, with all that goes wrong under way. In every second
+/// capture there are transit limits too.
+pub fn traffic(chance: &mut Chance, size: usize, records: usize) -> Capture {
+    let mut capture = Capture::new(size);
+    let limited = chance.flip();
     let count = stream_count(chance);
     let ids = stream_ids(chance, count);
     let mut senders: Vec<Sender> = ids.iter().map(|&id| Sender::new(chance, id)).collect();
     let busy = if chance.flip() { count } else { count.min(3) };
     for &id in &ids {
         if !chance.one_in(12) {
-            capture.admit(id);
+            limits::admit(chance, &mut capture, id, limited);
         }
     }
     let mut at = arrival(chance);
@@ -77,13 +80,16 @@ pub fn traffic(chance: &mut Chance, limit: usize, records: usize) -> Capture {
             _ => at.wrapping_add(chance.below(250_000) as u64),
         };
         match chance.below(40) {
-            _ if limit > SMALL && chance.one_in(100) => longest_record(chance, &mut capture),
-            0 => capture.admit(chance.pick(&ids)),
+            _ if size > SMALL && chance.one_in(100) => longest_record(chance, &mut capture),
+            0 => {
+                let id = chance.pick(&ids);
+                limits::admit(chance, &mut capture, id, limited);
+            }
             1 => capture.remove(chance.pick(&ids)),
             2 => {
                 let id = chance.pick(&ids);
                 capture.remove(id);
-                capture.admit(id);
+                limits::admit(chance, &mut capture, id, limited);
             }
             _ => {
                 let which = chance.below(busy);
@@ -97,13 +103,14 @@ pub fn traffic(chance: &mut Chance, limit: usize, records: usize) -> Capture {
 /// A capture that ends inside its last record, at every kind of place.
 pub fn cut(chance: &mut Chance) -> Capture {
     let mut capture = traffic(chance, 5_000, 12);
-    match chance.below(8) {
+    match chance.below(9) {
         0 => capture.admit(1),
         1 => capture.remove(1),
         2 => capture.record(&[]),
         3 => capture.record(&[2]),
         4 => capture.kind(9, &[0; 30]),
         5 => capture.kind(1, &vec![0; 65_533]),
+        6 => capture.admit_limited(1, LARGEST_LIMIT),
         _ => {
             let frame = Frame::sound(chance, 1);
             capture.frame(0, &frame.bytes());

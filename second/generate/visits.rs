@@ -3,8 +3,9 @@
 
 use crate::captures::{Capture, SMALL};
 use crate::chance::Chance;
+use crate::limits::{self, LARGEST_LIMIT};
 use crate::senders::{stream_ids, Sender};
-use crate::times::{arrival, offset, stamp, HALF_A_WRAP, LEAST_CLEAR};
+use crate::times::{arrival, inside, offset, stamp, HALF_A_WRAP, LEAST_CLEAR};
 
 /// What the frames of a stream are like, from one admission to the next.
 #[derive(Clone, Copy)]
@@ -19,6 +20,13 @@ enum Habit {
     Ahead,
     /// They are half a wrap away (request #106).
     Unclear,
+    /// Their offsets are above the transit limit, unless it is the largest (request
+    /// #107).
+    Far,
+    /// Their offsets are the transit limit or next to it.
+    AtTheLimit,
+    /// They are far, unclear or outside.
+    OutOfReach,
     /// Their offsets are half a wrap, the least that is clear, or the greatest.
     AtTheEdges,
     /// Their offsets come to 0.
@@ -29,17 +37,6 @@ enum Habit {
 /// When a frame arrives, and its offset if it has a stamp.
 type Times = (u64, Option<i32>);
 
-/// An arrival from which every offset but half a wrap leads to a time, often the first
-/// or the last of these.
-fn inside(chance: &mut Chance) -> u64 {
-    let (first, last) = ((1 << 31) - 1, (1u64 << 31).wrapping_neg());
-    match chance.below(4) {
-        0 => first,
-        1 => last,
-        _ => first + chance.next() % (last - first),
-    }
-}
-
 /// An arrival near either end of the times, and an offset that leads past it.
 fn outside(chance: &mut Chance) -> Times {
     let near = chance.below(1000) as u64;
@@ -48,6 +45,13 @@ fn outside(chance: &mut Chance) -> Times {
     } else {
         (u64::MAX - near, Some(chance.pick(&[i32::MAX, 1_000_000, 1000])))
     }
+}
+
+/// An offset above the limit, unless it is the largest; often by one.
+fn above(chance: &mut Chance, limit: u32) -> i32 {
+    let next = limit.saturating_add(1).min(LARGEST_LIMIT);
+    let further = chance.below((LARGEST_LIMIT - next) as usize + 1) as u32;
+    (next + chance.pick(&[0, 0, further, LARGEST_LIMIT - next])) as i32
 }
 
 /// Offsets that come to 0.
@@ -71,14 +75,17 @@ impl Habit {
             Habit::Late,
             Habit::Ahead,
             Habit::Unclear,
+            Habit::Far,
+            Habit::AtTheLimit,
+            Habit::OutOfReach,
             Habit::AtTheEdges,
             Habit::Balanced,
             Habit::Any,
         ])
     }
 
-    /// The times of the next frames.
-    fn times(self, chance: &mut Chance) -> Vec<Times> {
+    /// The times of the next frames of a stream with this transit limit.
+    fn times(self, chance: &mut Chance, limit: u32) -> Vec<Times> {
         let any = offset(chance);
         let offsets = match self {
             Habit::Silent => return vec![],
@@ -87,7 +94,16 @@ impl Habit {
             Habit::Any => return vec![(arrival(chance), (!chance.one_in(4)).then_some(any))],
             Habit::Unclear => return vec![(arrival(chance), Some(HALF_A_WRAP))],
             Habit::Late => vec![any.min(-1 - any).max(LEAST_CLEAR)],
-            Habit::Ahead => vec![any.max(-1 - any)],
+            Habit::Ahead => vec![any.max(-1 - any).min(limit as i32)],
+            Habit::Far => vec![above(chance, limit)],
+            Habit::AtTheLimit => {
+                vec![(limit as i32).saturating_add(chance.pick(&[-1, 0, 1]))]
+            }
+            Habit::OutOfReach => match chance.below(3) {
+                0 => return vec![outside(chance)],
+                1 => vec![HALF_A_WRAP],
+                _ => vec![above(chance, limit)],
+            },
             Habit::AtTheEdges => vec![chance.pick(&[HALF_A_WRAP, LEAST_CLEAR, i32::MAX])],
             Habit::Balanced => balanced(chance),
         };
@@ -95,19 +111,26 @@ impl Habit {
     }
 }
 
-/// A stream and its habit. Its frames have no blocks, so that there is room for many.
+/// A stream with its transit limit and its habit. Its frames have no blocks, so that
+/// there is room for many.
 pub struct Visitor {
     sender: Sender,
+    limit: u32,
     habit: Habit,
 }
 
 impl Visitor {
     pub fn new(chance: &mut Chance, id: u64) -> Visitor {
-        Visitor { sender: Sender::new(chance, id), habit: Habit::any(chance) }
+        Visitor { sender: Sender::new(chance, id), limit: LARGEST_LIMIT, habit: Habit::any(chance) }
     }
 
     pub fn id(&self) -> u64 {
         self.sender.frame.stream_id
+    }
+
+    /// The transit limit that the stream was last admitted with.
+    pub fn limit(&self) -> u32 {
+        self.limit
     }
 
     /// Puts in the stream's next frame, which now and then raises a flag.
@@ -128,46 +151,65 @@ impl Visitor {
 
     /// Puts in frames as the stream's habit is.
     fn visit(&mut self, chance: &mut Chance, capture: &mut Capture) {
-        for times in self.habit.times(chance) {
+        for times in self.habit.times(chance, self.limit) {
             self.send(chance, capture, times);
         }
     }
 
+    /// Admits the stream with this transit limit.
+    pub fn admit_limited(&mut self, capture: &mut Capture, limit: u32) {
+        capture.admit_limited(self.id(), limit);
+        self.limit = limit;
+    }
+
     /// Admits the stream, which takes up another habit, so that numbers that it had
-    /// before would show.
-    fn admit(&mut self, chance: &mut Chance, capture: &mut Capture) {
-        capture.admit(self.id());
+    /// before would show. Where `limited`, it mostly has another transit limit too.
+    fn admit(&mut self, chance: &mut Chance, capture: &mut Capture, limited: bool) {
+        if limited && !chance.one_in(4) {
+            self.admit_limited(capture, limits::allowed(chance));
+        } else {
+            capture.admit(self.id());
+            self.limit = LARGEST_LIMIT;
+        }
         self.habit = Habit::any(chance);
     }
 }
 
 /// Removes some streams, and admits them again in another order.
-fn change_places(chance: &mut Chance, capture: &mut Capture, visitors: &mut [Visitor]) {
+fn change_places(
+    chance: &mut Chance,
+    capture: &mut Capture,
+    visitors: &mut [Visitor],
+    limited: bool,
+) {
     let which: Vec<usize> =
         (0..chance.within(2, 6)).map(|_| chance.below(visitors.len())).collect();
     for &visitor in &which {
         capture.remove(visitors[visitor].id());
     }
     for &visitor in which.iter().rev() {
-        visitors[visitor].admit(chance, capture);
+        visitors[visitor].admit(chance, capture, limited);
     }
 }
 
 /// What comes next: frames of a stream, or an admission or removal, often a refused
 /// one.
-fn turn(chance: &mut Chance, capture: &mut Capture, visitors: &mut [Visitor]) {
+fn turn(chance: &mut Chance, capture: &mut Capture, visitors: &mut [Visitor], limited: bool) {
     let which = chance.below(visitors.len());
     let visitor = &mut visitors[which];
     match chance.below(24) {
-        0 => capture.admit(visitor.id()),
-        1 => capture.admit(chance.next()),
+        0 => limits::admit(chance, capture, visitor.id(), limited),
+        1 => {
+            let id = chance.next();
+            limits::admit(chance, capture, id, limited);
+        }
         2 => capture.remove(chance.next()),
         3 => capture.remove(visitor.id()),
         4 => {
             capture.remove(visitor.id());
-            visitor.admit(chance, capture);
+            visitor.admit(chance, capture, limited);
         }
-        5 => change_places(chance, capture, visitors),
+        5 => change_places(chance, capture, visitors, limited),
         _ => visitor.visit(chance, capture),
     }
 }
@@ -182,29 +224,31 @@ fn visitor_count(chance: &mut Chance) -> usize {
     }
 }
 
-/// Streams with all that a visit report can say of them.
+/// Streams with all that a visit report can say of them; in three captures of four there
+/// are transit limits too.
 pub fn visits(chance: &mut Chance) -> Capture {
     let mut capture = Capture::new(SMALL);
     let count = visitor_count(chance);
     let ids = stream_ids(chance, count);
     let mut visitors: Vec<Visitor> = ids.iter().map(|&id| Visitor::new(chance, id)).collect();
-    for visitor in &visitors {
-        capture.admit(visitor.id());
+    let limited = !chance.one_in(4);
+    for visitor in &mut visitors {
+        visitor.admit(chance, &mut capture, limited);
     }
     for _ in 0..chance.within(10, 50 + 10 * count) {
         if capture.full() {
             break;
         }
-        turn(chance, &mut capture, &mut visitors);
+        turn(chance, &mut capture, &mut visitors, limited);
     }
     // Fills the holes. The others are admitted still, and must not start anew.
     if chance.flip() {
         for visitor in &visitors {
-            capture.admit(visitor.id());
+            limits::admit(chance, &mut capture, visitor.id(), limited);
         }
     }
     if chance.one_in(4) {
-        turn(chance, &mut capture, &mut visitors);
+        turn(chance, &mut capture, &mut visitors, limited);
         capture.cut_last(chance);
     }
     capture

@@ -10,16 +10,24 @@ use lib.Dec.{lit≤, eqb}
 use lib.ListN.{length, getElem?}
 use borrow.Author.Tests.{eqb-true, eq-eqb}
 use Rattle.stream.specs.declared.Counts.{Counts}
-use Rattle.stream.specs.Records.{admitted}
+use Rattle.presentation.specs.Presentation.{largestLimit}
+use Rattle.stream.specs.Records.{noCounts, admittedWithin, admitted}
 use Rattle.stream.proofs.Laws.{admitted-counts}
 use Rattle.stream.specs.declared.Record.{Record}
-use Rattle.stream.specs.Answers.{idOf}
+use Rattle.stream.specs.Answers.{Answer, idOf}
 use Rattle.table.specs.Table.{Table, holds, place, at, only, numberWith, receive, receiveAlone}
 use Rattle.table.proofs.Lengths.{length-receive}
 use Rattle.arrivals.specs.Arrivals.{Arrival, run, runAlone, isAccepted, ofStream, OneStream, StreamRecord, those, answersTo, replay, WithinCap, Counted, Claim}
-use Rattle.arrivals.proofs.Places.{and-both, stream-place, place-stream, one-stream, accepted, verdict, refused-verdict, accepted-number, number-place, number-any}
+use Rattle.table.proofs.Receiving.{number-any}
+use Rattle.arrivals.proofs.Places.{and-both, stream-place, place-stream, one-stream, accepted, verdict, refused-verdict, accepted-number, number-place}
 use Rattle.arrivals.proofs.Directed.{directed, run-directed, one-answer-each, length-kept, place-kept, refused-at, as-replay, exchange-answers, exchange-table}
 use Rattle.arrivals.proofs.Counts.{replay-counted}
+
+-- ---- a newly admitted stream has counted nothing, whatever its limit
+
+pub from-zero : (k limit : ℕ) {e : Record} {xs : List Answer} → (WithinCap (admittedWithin k limit .counts) → Counted (admittedWithin k limit .counts) e xs) → Counted noCounts e xs
+from-zero k limit {e} {xs} counted =
+    subst (λ (c : Counts). Counted c e xs) (admitted-counts k limit) (counted (rw (admitted-counts k limit) (lit≤ tt, lit≤ tt, lit≤ tt, lit≤ tt, lit≤ tt)))
 
 -- ---- an accepted arrival is accepted at the place of its stream's record
 
@@ -105,9 +113,7 @@ module _ (t : Table) where
         exchange = λ before a b rest h i.
             (exchange-answers (verdict t) a b rest (apart a b h) t before i, exchange-table (verdict t) a b rest (apart a b h) t before i);
         counts = stream-counts;
-        since-admission = λ l k i e x p.
-            subst (λ (c : Counts). Counted c e (answersTo (ofStream t k) l ((directed (verdict t) t l) .0))) (admitted-counts k)
-            (stream-counts l k i (admitted k) e x (rw (admitted-counts k) (lit≤ tt, lit≤ tt, lit≤ tt, lit≤ tt, lit≤ tt)) p);
+        since-admission = λ l k i e x p. from-zero k largestLimit (λ within. stream-counts l k i (admitted k) e x within p);
       }
 
   pub over-a-table : Claim t (run t)

@@ -19,7 +19,7 @@ use Rattle.round_trip.specs.Successive.{Call, successive, CallsTyped, Delivered
 use Rattle.round_trip.proofs.ReadBack.{left-bytes, fields-back}
 use Rattle.round_trip.proofs.Gapless.{advanced-typed, gapless}
 use Rattle.stream.specs.declared.Record.{Record}
-use Rattle.stream.specs.Records.{admitted}
+use Rattle.stream.specs.Records.{admittedWithin}
 use Rattle.stream.specs.Answers.{Answer, answerOf, after, idOf}
 use Rattle.stream.proofs.Laws.{Expects, expects-any, no-breaks, expects-next}
 use Rattle.table.specs.Table.{Table, holds, isUnused, any, place, admitChecks, admit, numberWith}
@@ -86,36 +86,39 @@ neither : (b c : Bool) → b || c ≡ false → (b ≡ false) × (c ≡ false)
 neither true c e = absurd (false≢true (sym e))
 neither false c e = (refl, e)
 
-module _ (k : ℕ) where
-  new-record : (t : Table) → any (holds k) t ≡ false → any isUnused t ≡ true → StreamRecord (set t (place isUnused t) (admitted k)) k (place isUnused t) (admitted k)
-  unfolding any place admitted
+module _ (k limit : ℕ) where
+  abbrev new : Record
+  new = admittedWithin k limit
+
+  new-record : (t : Table) → any (holds k) t ≡ false → any isUnused t ≡ true → StreamRecord (set t (place isUnused t) new) k (place isUnused t) new
+  unfolding any place admittedWithin
   new-record [] h u = absurd (false≢true u)
   new-record (s ∷ t) h u =
       let p = neither (holds k s) (any (holds k) t) h in
       go (λ v. new-record t (p .1) v) (p .0) (isUnused s) u
     where
-      go : (any isUnused t ≡ true → StreamRecord (set t (place isUnused t) (admitted k)) k (place isUnused t) (admitted k)) → holds k s ≡ false
+      go : (any isUnused t ≡ true → StreamRecord (set t (place isUnused t) new) k (place isUnused t) new) → holds k s ≡ false
           → (b : Bool) → b || any isUnused t ≡ true
-          → StreamRecord (set (s ∷ t) (cond b 0 (suc (place isUnused t))) (admitted k)) k (cond b 0 (suc (place isUnused t))) (admitted k)
+          → StreamRecord (set (s ∷ t) (cond b 0 (suc (place isUnused t))) new) k (cond b 0 (suc (place isUnused t))) new
       go ih e true v = record { there = refl; in-use = refl; id = refl; lowest = λ j q lt. absurd (omega arith) }
-      go ih e false v = one-higher k s (set t (place isUnused t) (admitted k)) (place isUnused t) (admitted k) e (ih v)
+      go ih e false v = one-higher k s (set t (place isUnused t) new) (place isUnused t) new e (ih v)
 
 -- what a table is after an admission
-record Admitted (u : Table) (k : ℕ) : Type 0 where
+record Admitted (u : Table) (k limit : ℕ) : Type 0 where
   place : ℕ
-  stream : StreamRecord u k place (admitted k)
+  stream : StreamRecord u k place (admittedWithin k limit)
   short : length u ≤ 64
 
-admitted-table : (t : Table) (k : ℕ) → (admit t k) .0 ≡ 0 → Admitted ((admit t k) .1) k
+admitted-table : (t : Table) (k limit : ℕ) → (admit limit t k) .0 ≡ 0 → Admitted ((admit limit t k) .1) k limit
 unfolding admit
-admitted-table t k e =
-    let c = clear (admitChecks t k) tt e in
+admitted-table t k limit e =
+    let c = clear (admitChecks limit t k) tt e in
     let i = place isUnused t in
-    subst (λ (n : ℕ). Admitted (ifAccepted n (set t i (admitted k)) t) k) (sym e)
+    subst (λ (n : ℕ). Admitted (ifAccepted n (set t i (new k limit)) t) k limit) (sym e)
     (record {
       place = i;
-      stream = new-record k t (c .1 .0) (not-false (any isUnused t) (c .1 .1 .0));
-      short = rw (length-set t i (admitted k)) (ltb-false 64 (length t) (c .0));
+      stream = new-record k limit t (c .1 .0) (not-false (any isUnused t) (c .1 .1 .1 .0));
+      short = rw (length-set t i (new k limit)) (ltb-false 64 (length t) (c .0));
     })
 
 -- ---- every frame is accepted
@@ -124,7 +127,7 @@ accepts : (u : Table) (frame : List ℕ) → length u ≤ 64 → refusal frame �
 unfolding refusal orElse firstOf
 accepts u frame short e h = number-then u frame ∙ rw (le-ltb 64 (length u) short, e, h)
 
-module _ (u : Table) (k : ℕ) (x : Admitted u k) where
+module _ (u : Table) (k limit : ℕ) (x : Admitted u k limit) where
   abbrev AllMine : List Arrival → Type 0
   AllMine [] = Unit {0}
   AllMine (a ∷ l) = (ofStream u k a ≡ true) × AllMine l
@@ -132,7 +135,7 @@ module _ (u : Table) (k : ℕ) (x : Admitted u k) where
   all-mine : (s : Sender) (l : List Arrival) → Gapless s (frames l) → OfId k (frames l) → AllMine l
   all-mine s [] g h = tt
   all-mine s (a ∷ l) g h =
-      let there : any (holds (idOf (a .frame))) u ≡ true = rw (h .0) (stream-place k u (x .place) (admitted k) (x .stream) .0) in
+      let there : any (holds (idOf (a .frame))) u ≡ true = rw (h .0) (stream-place k u (x .place) (new k limit) (x .stream) .0) in
       (of-stream u a k (accepts u (a .frame) (x .short) (g .0) there) (h .0), all-mine (senderAfter (a .frame)) l (g .2) (h .1))
 
   those-all : (l : List Arrival) → AllMine l → those (ofStream u k) l ≡ l
@@ -151,14 +154,14 @@ module _ (u : Table) (k : ℕ) (x : Admitted u k) where
   heard s l g h =
       let claim = over-a-table u in
       let mine = all-mine s l g h in
-      let e : (run u l) .0 ≡ (replay (admitted k) l) .0 =
+      let e : (run u l) .0 ≡ (replay (new k limit) l) .0 =
       sym (answers-all l ((run u l) .0) mine (claim .one-each l))
-      ∙ claim .stream-answers l k (x .place) (admitted k) (x .stream)
-      ∙ ap (λ (m : List Arrival). (replay (admitted k) m) .0) (those-all l mine) in
-      rw e (unbroken (admitted k) s l (expects-any k (s .sequence) (s .dbc)) g)
+      ∙ claim .stream-answers l k (x .place) (new k limit) (x .stream)
+      ∙ ap (λ (m : List Arrival). (replay (new k limit) m) .0) (those-all l mine) in
+      rw e (unbroken (new k limit) s l (expects-any k limit (s .sequence) (s .dbc)) g)
 
 pub listener : Listener
-listener t k e s calls sender given one received got n l from =
+listener t k limit e s calls sender given one received got n l from =
     let g = gapless-drop n s received (gapless s calls received sender given got) in
     let h = ids-drop k n received (sent-ids k s calls sender given one received got) in
-    heard ((admit t k) .1) k (admitted-table t k e) (g .0) l (rw from (g .1)) (rw from h)
+    heard ((admit limit t k) .1) k limit (admitted-table t k limit e) (g .0) l (rw from (g .1)) (rw from h)

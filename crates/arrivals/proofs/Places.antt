@@ -2,7 +2,7 @@
 use Prim.Native.Nat.{ℕ, zero, suc, _<_}
 use mathlib.Core.Path.{_≡_, refl, sym, ap, _∙_}
 use mathlib.Core.Logic.{_≢_}
-use mathlib.Core.Bool.{Bool, true, false, cond, _&&_, _||_, false≢true}
+use mathlib.Core.Bool.{Bool, true, false, not, cond, _&&_, _||_, false≢true}
 use mathlib.Core.List.{List, [], _∷_, map}
 use mathlib.Core.Option.{some}
 use native.Mathlib.Omega.{arith}
@@ -11,13 +11,11 @@ use lib.ListN.{length, getD, set, getElem?, length-map}
 use lib.Seq.{map-set-same}
 use borrow.Author.Tests.{eqb-true, eq-eqb}
 use Rattle.refusal.specs.Refusals.{ifAccepted}
-use Rattle.refusal.proofs.First.{both}
 use Rattle.stream.specs.declared.Record.{Record}
 use Rattle.stream.specs.Records.{unused}
 use Rattle.stream.specs.Answers.{Answer, refusedWith, answerOf, after, idOf}
 use Rattle.stream.proofs.Laws.{after-in-use, after-id}
-use Rattle.table.specs.Table.{Table, holds, any, place, at, numberWith, receive}
-use Rattle.table.proofs.Receiving.{numberBefore, unadmitted, number-then}
+use Rattle.table.specs.Table.{Table, holds, isUnused, any, place, at, numberWith, receive}
 use Rattle.arrivals.specs.Arrivals.{Arrival, StreamRecord}
 
 -- ---- a list's place
@@ -141,59 +139,68 @@ pub number-place : (t : Table) (a : Arrival) → numberWith t (a .frame) ≡ 0 �
 unfolding verdict
 number-place t a e = rw e
 
-pub number-any : (t : Table) (frame : List ℕ) → numberWith t frame ≡ 0 → any (holds (idOf frame)) t ≡ true
-number-any t frame e =
-    go (any (holds (idOf frame)) t) (both (numberBefore (length t) frame) (unadmitted (any (holds (idOf frame)) t)) (sym (number-then t frame) ∙ e) .1)
-  where
-    go : (b : Bool) → unadmitted b ≡ 0 → b ≡ true
-    go true e = refl
-    go false e = absurd (omega arith)
-
 -- ---- a verdict goes by the keys alone, and no call changes a key
 
 -- what a step keeps of a record
-pub key : Record → Bool × ℕ
+unfoldable pub key : Record → Bool × ℕ
 key r = (r .«in_use», r .id)
 
 after-key : (r : Record) (frame : List ℕ) (L : ℕ) → key (after r frame L) ≡ key r
 unfolding key
 after-key r frame L i = (after-in-use r frame L i, after-id r frame L i)
 
-module _ (k : ℕ) where
-  holdsKey : Bool × ℕ → Bool
-  holdsKey x = x .0 && eqb (x .1) k
+holdsKey : ℕ → Bool × ℕ → Bool
+holdsKey k x = x .0 && eqb (x .1) k
 
+unusedKey : Bool × ℕ → Bool
+unusedKey x = not (x .0)
+
+-- a search by a test of the keys
+module _ (p : Bool × ℕ → Bool) where
   anyKey : List (Bool × ℕ) → Bool
   anyKey [] = false
-  anyKey (x ∷ l) = holdsKey x || anyKey l
+  anyKey (x ∷ l) = p x || anyKey l
 
   placeKey : List (Bool × ℕ) → ℕ
   placeKey [] = 0
-  placeKey (x ∷ l) = cond (holdsKey x) 0 (suc (placeKey l))
+  placeKey (x ∷ l) = cond (p x) 0 (suc (placeKey l))
 
-  any-key : (t : Table) → any (holds k) t ≡ anyKey (map key t)
-  unfolding any anyKey holdsKey key
+  any-key : (t : Table) → any (λ r. p (key r)) t ≡ anyKey (map key t)
+  unfolding any anyKey
   any-key [] = refl
-  any-key (r ∷ t) = ap (λ (b : Bool). holds k r || b) (any-key t)
+  any-key (r ∷ t) = ap (λ (b : Bool). p (key r) || b) (any-key t)
 
-  place-key : (t : Table) → place (holds k) t ≡ placeKey (map key t)
-  unfolding place placeKey holdsKey key
+  place-key : (t : Table) → place (λ r. p (key r)) t ≡ placeKey (map key t)
+  unfolding place placeKey
   place-key [] = refl
-  place-key (r ∷ t) = ap (λ (n : ℕ). cond (holds k r) 0 (suc n)) (place-key t)
+  place-key (r ∷ t) = ap (λ (n : ℕ). cond (p (key r)) 0 (suc n)) (place-key t)
 
 module _ (t u : Table) (e : map key t ≡ map key u) where
-  length-same : length t ≡ length u
+  pub length-same : length t ≡ length u
   length-same = sym (length-map t key) ∙ ap length e ∙ length-map u key
 
-  any-same : (k : ℕ) → any (holds k) t ≡ any (holds k) u
-  any-same k = any-key k t ∙ ap (anyKey k) e ∙ sym (any-key k u)
+  any-same : (p : Bool × ℕ → Bool) → any (λ r. p (key r)) t ≡ any (λ r. p (key r)) u
+  any-same p = any-key p t ∙ ap (anyKey p) e ∙ sym (any-key p u)
+
+  pub held-same : (k : ℕ) → any (holds k) t ≡ any (holds k) u
+  unfolding holdsKey key
+  held-same k = any-same (holdsKey k)
+
+  pub unused-same : any isUnused t ≡ any isUnused u
+  unfolding unusedKey key
+  unused-same = any-same unusedKey
 
   place-same : (k : ℕ) → place (holds k) t ≡ place (holds k) u
-  place-same k = place-key k t ∙ ap (placeKey k) e ∙ sym (place-key k u)
+  unfolding holdsKey key
+  place-same k = place-key (holdsKey k) t ∙ ap (placeKey (holdsKey k)) e ∙ sym (place-key (holdsKey k) u)
+
+  pub number-same : (frame : List ℕ) → numberWith t frame ≡ numberWith u frame
+  unfolding numberWith
+  number-same frame = rw (length-same, held-same (idOf frame))
 
   pub verdict-same : (a : Arrival) → verdict t a ≡ verdict u a
-  unfolding verdict numberWith
-  verdict-same a = rw (length-same, any-same (idOf (a .frame)), place-same (idOf (a .frame)))
+  unfolding verdict
+  verdict-same a = rw (number-same (a .frame), place-same (idOf (a .frame)))
 
 pub serve-keys : (t : Table) (a : Arrival) (v : Verdict) → map key ((serve t a v) .1) ≡ map key t
 unfolding serve

@@ -25,11 +25,11 @@ Unbroken (x ∷ xs) = ((x .number ≡ 0) × (x .flags .sequence ≡ false) × (x
 abbrev pub frames : List Arrival → List (List ℕ)
 frames l = map (λ (a : Arrival). a .frame) l
 
--- Stream k is admitted to a table. Then one sender's successive frames, all written with that id and none missing, are received, from
+-- Stream k is admitted to a table, with any limit. Then one sender's successive frames, all written with that id and none missing, are received, from
 -- any one of them on, each with any padding and at any time.
 abbrev pub Listener : Type 0
-Listener = (t : Table) (k : ℕ) → (admit t k) .0 ≡ 0
+Listener = (t : Table) (k limit : ℕ) → (admit limit t k) .0 ≡ 0
     → (s : Sender) (calls : List Call) → SenderTyped s → CallsTyped calls → OneId k calls
     → (received : List (List ℕ)) → Delivered (successive s calls) received
     → (n : ℕ) (l : List Arrival) → frames l ≡ drop n received
-    → Unbroken ((run ((admit t k) .1) l) .0)
+    → Unbroken ((run ((admit limit t k) .1) l) .0)

@@ -2,7 +2,7 @@
 use libc::STDERR_FILENO;
 
 pub(crate) fn show_version() {
-    messages::write(b"avtp_list", b"avtp_list 1.3\n");
+    messages::write(b"avtp_list", b"avtp_list 1.4\n");
 }
 
 // No capture is named, and standard input is a terminal.
@@ -33,6 +33,8 @@ pub(crate) fn show_help() {
         \x20 kind 1      a frame: the time of its arrival in nanoseconds (eight bytes),\n\
         \x20             then the Ethernet frame, from destination to payload\n\
         \x20 kind 2, 3   a stream is admitted, or removed: its id (eight bytes)\n\
+        \x20 kind 5      a stream is admitted with a transit limit: its id, then the limit\n\
+        \x20             in nanoseconds (four bytes, at most 2147483647)\n\
         \n\
         avtp_list(1) explains each line and each number.\n\
         \n\

@@ -31,7 +31,7 @@ module _ {first input d : List ℕ} {s : State} {input′ d′ : List ℕ} (l : 
   same-text : isRead (s .stage) ≡ true → tableText (s .table) ≡ report (first ++ l .listing .behind)
   same-text e = ap tableText (sym (l .listing .whole e .table)) ∙ sym (report-of-table (captureOf (l .listing .chunks))) ∙ ap report (same-capture e)
 
-  pub reports : {out : List ℕ} {end : ℕ} → PutInTurn d′ 0 (tableText (s .table)) out end → length (tableText (s .table)) ≤ 24_448
+  pub reports : {out : List ℕ} {end : ℕ} → PutInTurn d′ 0 (tableText (s .table)) out end → length (tableText (s .table)) ≤ 25_792
       → isRead (s .stage) ≡ true → Reports first d (record { stage = s .stage; end = end }) out
   reports {out} {end} p short read =
       record {

@@ -17,7 +17,7 @@ pub record Reports (first d : List ℕ) (r : Reported) (d′ : List ℕ) : Type 
   pub behind : List ℕ
   pub text : isRead (r .stage) ≡ true → PutInTurn d 0 (report (first ++ behind)) d′ (r .end)
   -- an output of so many bytes has room for any report
-  pub fits : r .end ≤ 24_448
+  pub fits : r .end ≤ 25_792
   -- after a failure there is none; where the output has room for a line of a listing, writing cannot fail
   pub failed : isRead (r .stage) ≡ false → (r .end ≡ 0) × (d′ ≡ d)
   pub written : roomy (length d) 0 ≡ true → isUnwritten (r .stage) ≡ false

@@ -2,7 +2,7 @@
 use libc::STDERR_FILENO;
 
 pub(crate) fn show_version() {
-    messages::write(b"avtp_report", b"avtp_report 1.2\n");
+    messages::write(b"avtp_report", b"avtp_report 1.3\n");
 }
 
 // No capture is named, and standard input is a terminal.
@@ -31,11 +31,12 @@ pub(crate) fn show_help() {
         \x20  1      the stream's id\n\
         \x20  2      accepted frames since it was last admitted\n\
         \x20  3-6    of these: sequence breaks, block breaks, format changes, mr changes\n\
-        \x20  7-12   how many had a time of each kind: none, cut, outside, late, ahead,\n\
-        \x20         unclear\n\
-        \x20 13-16   over the first 1,000,000 late or ahead, in nanoseconds: smallest and\n\
-        \x20         largest offset, sum, and mean as the sum over its count; or none\n\
-        \x20 17      late or ahead, and not among these\n\
+        \x20  7-13   how many had a time of each kind: none, cut, outside, late, ahead,\n\
+        \x20         unclear, far\n\
+        \x20 14-17   over the first 1,000,000 late or ahead (no others), in nanoseconds:\n\
+        \x20         smallest and largest offset, sum, and mean as the sum over its count;\n\
+        \x20         or none\n\
+        \x20 18      late or ahead, and not among these\n\
         \n\
         avtp_report(1) explains each column, and avtp_list(1) each line of a capture's\n\
         listing, of which these are the totals. avtp_list --help has the format of\n\

@@ -82,13 +82,14 @@ numbered rest some = rw (ne-eqb (length rest) 0 some) (of-front (eqb n 41) refl)
     n : ℕ
     n = firstOf (recordChecks rest)
 
-    of-body : (one two : Bool) (L id : ℕ) → heldNumber (cond one (arrival L) (cond two (admission id) (removal id))) ≡ 0
-    of-body true two L id = refl
-    of-body false true L id = refl
-    of-body false false L id = refl
+    of-body : (one two five : Bool) (L a m b n c : ℕ) → heldNumber (cond one (arrival L) (cond two (admission a m) (cond five (admission b n) (removal c)))) ≡ 0
+    of-body true two five L a m b n c = refl
+    of-body false true five L a m b n c = refl
+    of-body false false true L a m b n c = refl
+    of-body false false false L a m b n c = refl
 
     of-held : (k : ℕ) → heldNumber (heldBy k rest) ≡ k
-    of-held zero = of-body (eqb (kindOf rest) 1) (eqb (kindOf rest) 2) _ _
+    of-held zero = of-body (eqb (kindOf rest) 1) (eqb (kindOf rest) 2) (eqb (kindOf rest) 5) _ _ _ _ _ _
     of-held (suc k) = refl
 
     of-front : (b : Bool) → eqb n 41 ≡ b → frontNumber (cond b cut (whole (sizeOf rest) (heldBy n rest))) ≡ n

@@ -1,4 +1,5 @@
 pub mod Fronts
 pub mod Parts
+pub mod Limits
 pub mod InChunks
 pub mod Kept

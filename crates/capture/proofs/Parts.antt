@@ -1,7 +1,7 @@
 -- Bytes that come later change nothing of a record that is there whole. Assumes nothing.
 use Prim.Native.Nat.{ℕ, _+_, _≤_}
 use mathlib.Core.Path.{_≡_, refl, sym, ap, subst, _∙_}
-use mathlib.Core.Bool.{Bool, true, false, not, _&&_, _||_}
+use mathlib.Core.Bool.{Bool, true, false, cond, not, _||_}
 use mathlib.Core.List.{List, _++_}
 use mathlib.Core.Logic.{_⊎_, inl, inr, ⊎-elim}
 use native.Mathlib.Omega.{arith}
@@ -11,7 +11,7 @@ use lib.ListN.{length, drop, length-append, length-drop}
 use lib.Seq.{take-append-le, drop-append-le}
 use Rattle.wire.specs.Numbers.{part, spelledOr0, number, littleEndian}
 use Rattle.wire.proofs.Numbers.{there}
-use Rattle.capture.specs.Records.{whole, lengthOf, kindOf, sizeOf, bodyOf, wrongLength, unknownKind, entryOf}
+use Rattle.capture.specs.Records.{whole, lengthOf, kindOf, sizeOf, bodyOf, wrongFor, wrongLength, unknownKind, entryOf}
 use Rattle.capture.specs.Parts.{ReadInParts}
 use Rattle.capture.proofs.Fronts.{wrong, unknown, known, all-there, sized}
 
@@ -27,28 +27,47 @@ module _ (at k : ℕ) (s t : List ℕ) (h : at + k ≤ length s) where
   longer : at + k ≤ length (s ++ t)
   longer = rw (length-append s t) (omega arith)
 
-  read-same : (spelled : List ℕ → ℕ) → spelledOr0 spelled at k (s ++ t) ≡ spelledOr0 spelled at k s
+  pub read-same : (spelled : List ℕ → ℕ) → spelledOr0 spelled at k (s ++ t) ≡ spelledOr0 spelled at k s
   read-same spelled = there spelled at k (s ++ t) longer ∙ ap spelled part-same ∙ sym (there spelled at k s h)
 
 -- ---- how long a record is that is not refused
 
--- no wrong length and no unknown kind: at least 10
-by-kind : (one two three under-2 under-10 is-10 : Bool) → under-2 || (one && under-10) || ((two || three) && not is-10) ≡ false → not (one || two || three) ≡ false
-    → (under-10 ≡ false) ⊎ (is-10 ≡ true)
-by-kind one two three true d e p q = never p
-by-kind true two three false true e p q = never p
-by-kind true two three false false e p q = inl refl
-by-kind false true three false d true p q = inr refl
-by-kind false true three false d false p q = never p
-by-kind false false true false d true p q = inr refl
-by-kind false false true false d false p q = never p
-by-kind false false false false d e p q = never q
+-- no wrong length: right for its kind
+right-for : (n k : ℕ) → wrongLength n k ≡ false → wrongFor k n ≡ false
+unfolding wrongLength
+right-for n k = go (ltb n 2)
+  where
+    go : (short : Bool) → short || wrongFor k n ≡ false → wrongFor k n ≡ false
+    go true p = never p
+    go false p = p
 
-at-least-10 : (n k : ℕ) → wrongLength n k ≡ false → unknownKind k ≡ false → 10 ≤ n
-unfolding wrongLength unknownKind
+-- and no unknown kind: at least 10
+by-kind : (one two three five under-10 is-10 is-14 : Bool) → cond one under-10 (cond (two || three) (not is-10) (cond five (not is-14) false)) ≡ false → not (one || two || three || five) ≡ false
+    → (under-10 ≡ false) ⊎ ((is-10 ≡ true) ⊎ (is-14 ≡ true))
+by-kind true two three five true e f p q = never p
+by-kind true two three five false e f p q = inl refl
+by-kind false true three five d true f p q = inr (inl refl)
+by-kind false true three five d false f p q = never p
+by-kind false false true five d true f p q = inr (inl refl)
+by-kind false false true five d false f p q = never p
+by-kind false false false true d e true p q = inr (inr refl)
+by-kind false false false true d e false p q = never p
+by-kind false false false false d e f p q = never q
+
+pub at-least-10 : (n k : ℕ) → wrongLength n k ≡ false → unknownKind k ≡ false → 10 ≤ n
+unfolding unknownKind
 at-least-10 n k p q =
-    ⊎-elim (λ d. ltb-false n 10 d) (λ e. let h : n ≡ 10 = eqb-true n 10 e in omega arith)
-    (by-kind (eqb k 1) (eqb k 2) (eqb k 3) (ltb n 2) (ltb n 10) (eqb n 10) p q)
+    ⊎-elim (λ d. ltb-false n 10 d)
+    (⊎-elim (λ e. let h : n ≡ 10 = eqb-true n 10 e in omega arith) (λ e. let h : n ≡ 14 = eqb-true n 14 e in omega arith))
+    (by-kind (eqb k 1) (eqb k 2) (eqb k 3) (eqb k 5) (ltb n 10) (eqb n 10) (eqb n 14) (right-for n k p) q)
+
+-- 14 where there is a limit
+is-14 : (n k : ℕ) → eqb k 5 ≡ true → wrongLength n k ≡ false → n ≡ 14
+is-14 n k e p = go (eqb n 14) refl (subst (λ (k : ℕ). wrongFor k n ≡ false) (eqb-true k 5 e) (right-for n k p))
+  where
+    go : (b : Bool) → eqb n 14 ≡ b → not b ≡ false → n ≡ 14
+    go true e q = eqb-true n 14 e
+    go false e q = never q
 
 at-least-2 : (n k : ℕ) (short : Bool) → ltb n 2 ≡ short → wrongLength n k ≡ false → 2 ≤ n
 unfolding wrongLength
@@ -87,8 +106,12 @@ module _ (rest later : List ℕ) (some : length rest ≡ 0 → ⊥) (all : sizeO
   unfolding kindOf
   kind-same h = sym (read-same 2 2 rest later (omega arith) littleEndian)
 
-  body-same : 10 ≤ n → bodyOf k both ≡ bodyOf k rest
-  body-same h = rw (read-same 4 8 rest later (omega arith) littleEndian, read-same 4 8 rest later (omega arith) number)
+  -- the limit is read where there is one
+  body-same : 10 ≤ n → (five : Bool) → eqb k 5 ≡ five → wrongLength n k ≡ false → bodyOf k both ≡ bodyOf k rest
+  body-same h true e w =
+      let whole : n ≡ 14 = is-14 n k e w in
+      rw (read-same 4 8 rest later (omega arith) littleEndian, read-same 4 8 rest later (omega arith) number, read-same 12 4 rest later (omega arith) littleEndian)
+  body-same h false e w = rw (e, read-same 4 8 rest later (omega arith) littleEndian, read-same 4 8 rest later (omega arith) number)
 
   by-checks : (w u : Bool) → wrongLength n k ≡ w → unknownKind k ≡ u → entryOf both ≡ entryOf rest
   by-checks true u ew eu =
@@ -99,7 +122,7 @@ module _ (rest later : List ℕ) (some : length rest ≡ 0 → ⊥) (all : sizeO
       ∙ unknown rest some refl refl all (sym ew) (sym eu)
   by-checks false false ew eu =
       sym (known both some-more length-same (kind-same (at-least-2 n k (ltb n 2) refl ew)) all-more (sym ew) (sym eu))
-      ∙ ap (whole (2 + n)) (body-same (at-least-10 n k ew eu)) ∙ known rest some refl refl all (sym ew) (sym eu)
+      ∙ ap (whole (2 + n)) (body-same (at-least-10 n k ew eu) (eqb k 5) refl ew) ∙ known rest some refl refl all (sym ew) (sym eu)
 
 pub read-in-parts : ReadInParts
 read-in-parts rest later size held e =

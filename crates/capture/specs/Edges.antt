@@ -26,8 +26,12 @@ recordEdges =
     ∷ edge (10 ∷ 0 ∷ 1 ∷ 0 ∷ 232 ∷ 3 ∷ replicate 6 0) (whole 12 (arrival 1000))
     ∷ edge (11 ∷ 0 ∷ 2 ∷ 0 ∷ replicate 9 0) (whole 13 (damaged 42))
     -- id 1 admitted and removed, with more bytes behind the record
-    ∷ edge (10 ∷ 0 ∷ 2 ∷ 0 ∷ replicate 7 0 ++ (1 ∷ 9 ∷ [])) (whole 12 (admission 1))
+    ∷ edge (10 ∷ 0 ∷ 2 ∷ 0 ∷ replicate 7 0 ++ (1 ∷ 9 ∷ [])) (whole 12 (admission 1 2_147_483_647))
     ∷ edge (10 ∷ 0 ∷ 3 ∷ 0 ∷ replicate 7 0 ++ (1 ∷ 9 ∷ [])) (whole 12 (removal 1))
+    -- kind 5 of lengths 13, 14 and 15: id 1 admitted with the limit 258
+    ∷ edge (13 ∷ 0 ∷ 5 ∷ 0 ∷ replicate 11 0) (whole 15 (damaged 42))
+    ∷ edge (14 ∷ 0 ∷ 5 ∷ 0 ∷ replicate 7 0 ++ (1 ∷ 2 ∷ 1 ∷ 0 ∷ 0 ∷ 9 ∷ [])) (whole 16 (admission 1 258))
+    ∷ edge (15 ∷ 0 ∷ 5 ∷ 0 ∷ replicate 13 0) (whole 17 (damaged 42))
     -- kinds 0, 4 and 256
     ∷ edge (2 ∷ 0 ∷ 0 ∷ 0 ∷ []) (whole 4 (damaged 43))
     ∷ edge (2 ∷ 0 ∷ 4 ∷ 0 ∷ []) (whole 4 (damaged 43))

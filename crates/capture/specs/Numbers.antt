@@ -9,7 +9,7 @@ use Rattle.capture.specs.Records.{Held, damaged, arrival, admission, rem
 abbrev pub heldNumber : Held → ℕ
 heldNumber (damaged n) = n
 heldNumber (arrival L) = 0
-heldNumber (admission id) = 0
+heldNumber (admission id limit) = 0
 heldNumber (removal id) = 0
 
 abbrev pub frontNumber : Front → ℕ

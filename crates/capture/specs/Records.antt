@@ -1,6 +1,6 @@
--- A capture's records (document 01, Capture and listing), over the bytes that remain of it.
+-- A capture's records (document 01, Capture and listing; request #107), over the bytes that remain of it.
 use Prim.Native.Nat.{ℕ, _+_}
-use mathlib.Core.Bool.{Bool, cond, not, _&&_, _||_}
+use mathlib.Core.Bool.{Bool, false, cond, not, _||_}
 use mathlib.Core.List.{List, [], _∷_}
 use lib.Dec.{eqb, ltb}
 use lib.ListN.{length, drop}
@@ -19,8 +19,8 @@ pub data Held : Type 0 where
   damaged : ℕ → Held
   -- a frame with its arrival time L
   arrival : ℕ → Held
-  -- the id of a stream to admit, and to remove
-  admission : ℕ → Held
+  -- the id of a stream to admit, with its limit, and of one to remove
+  admission : ℕ → ℕ → Held
   removal : ℕ → Held
 
 -- what stands at the front of the bytes that remain
@@ -36,7 +36,7 @@ pub data Front : Type 0 where
 abbrev pub heldOf : Content → Held
 heldOf (Refused r) = damaged (numberOf r)
 heldOf (Frame L) = arrival L
-heldOf (Admit id) = admission id
+heldOf (Admit id limit) = admission id limit
 heldOf (Remove id) = removal id
 
 abbrev pub frontOf : Entry → Front
@@ -56,12 +56,18 @@ kindOf rest = littleEndianOr0 2 2 rest
 abbrev pub sizeOf : List ℕ → ℕ
 sizeOf rest = 2 + lengthOf rest
 
--- kind 1: eight-byte little-endian L, then a frame; kind 2 admits and kind 3 removes: eight id bytes in wire order
+-- "eight id bytes, four limit bytes little-endian" (request #107)
+abbrev pub limitOf : List ℕ → ℕ
+limitOf rest = littleEndianOr0 12 4 rest
+
+-- kind 1: eight-byte little-endian L, then a frame; kind 2 admits and kind 3 removes: eight id bytes in wire order; kind 5 admits with a limit,
+-- and kind 2 with 2,147,483,647
 abbrev pub bodyOf : ℕ → List ℕ → Held
 bodyOf kind rest =
     cond (eqb kind 1) (arrival (littleEndianOr0 4 8 rest))
-    (cond (eqb kind 2) (admission (numberOr0 4 8 rest))
-    (removal (numberOr0 4 8 rest)))
+    (cond (eqb kind 2) (admission (numberOr0 4 8 rest) 2_147_483_647)
+    (cond (eqb kind 5) (admission (numberOr0 4 8 rest) (limitOf rest))
+    (removal (numberOr0 4 8 rest))))
 
 -- the frame in a record: what stands behind L, none where the record is shorter
 unfoldable pub frameIn : List ℕ → List ℕ
@@ -69,12 +75,20 @@ frameIn bytes = drop 12 bytes
 
 -- ---- Numbers answered
 
--- under 2, or wrong for its kind: at least 10 for kind 1, exactly 10 for kinds 2 and 3
+-- at least 10 for kind 1, exactly 10 for kinds 2 and 3, exactly 14 for kind 5 (request #107)
+abbrev pub wrongFor : ℕ → ℕ → Bool
+wrongFor kind n =
+    cond (eqb kind 1) (ltb n 10)
+    (cond (eqb kind 2 || eqb kind 3) (differs n 10)
+    (cond (eqb kind 5) (differs n 14)
+    false))
+
+-- under 2, or wrong for its kind
 unfoldable pub wrongLength : ℕ → ℕ → Bool
-wrongLength n kind = ltb n 2 || (eqb kind 1 && ltb n 10) || ((eqb kind 2 || eqb kind 3) && differs n 10)
+wrongLength n kind = ltb n 2 || wrongFor kind n
 
 unfoldable pub unknownKind : ℕ → Bool
-unknownKind kind = not (eqb kind 1 || eqb kind 2 || eqb kind 3)
+unknownKind kind = not (eqb kind 1 || eqb kind 2 || eqb kind 3 || eqb kind 5)
 
 abbrev pub recordChecks : List ℕ → List Check
 recordChecks rest =

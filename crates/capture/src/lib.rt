@@ -5,7 +5,7 @@ ghost use Prim.Native.Nat.{_≤_};
 ghost use lib.ListN.{length};
 ghost use denote.Ref.{ptr};
 ghost use Rattle.wire.specs.Parts.{StandsIn};
-ghost use Rattle.capture.specs.Records.{heldOf, frontOf, entryOf, wrongLength, unknownKind, bodyOf, frameIn};
+ghost use Rattle.capture.specs.Records.{heldOf, frontOf, entryOf, wrongLength, unknownKind, limitOf, bodyOf, frameIn};
 ghost use Rattle.capture.specs.Numbers.{RecordNumbers};
 ghost use Rattle.capture.specs.Sizes.{RecordSizes};
 ghost use Rattle.capture.specs.Parts.{ReadInParts};
@@ -26,9 +26,12 @@ pub enum Content {
     Refused(Refusal),
     // The frame's bytes are what `frame_in` gives of the record.
     Frame { arrival_time: u64 },
-    Admit { id: u64 },
+    Admit { id: u64, limit: u32 },
     Remove { id: u64 },
 }
+
+// The limit with which kind 2 admits a stream: the largest (request #107).
+const LARGEST_LIMIT: u32 = 2_147_483_647;
 
 // Is this length, of what follows in the record, under 2 or wrong for the kind?
 fn wrong_length(length: u16, kind: u16) -> bool
@@ -43,13 +46,23 @@ fn wrong_length(length: u16, kind: u16) -> bool
     if (kind == 2) | (kind == 3) {
         return length != 10;
     }
+    if kind == 5 {
+        return length != 14;
+    }
     false
 }
 
 fn unknown_kind(kind: u16) -> bool
     ensures { λ r. ⌜ r ≡ unknownKind kind ⌝ }
 {
-    !((kind == 1) | (kind == 2) | (kind == 3))
+    !((kind == 1) | (kind == 2) | (kind == 3) | (kind == 5))
+}
+
+// The limit in a record of kind 5: the four bytes behind the id, lowest first.
+fn limit_in(capture: &[u8]) -> u32
+    ensures { λ r. ⌜ r ≡ limitOf (now (capture .entry)) ⌝ }
+{
+    wire::le32(capture, 12)
 }
 
 // What a sound record holds, by its kind.
@@ -63,7 +76,14 @@ fn body(capture: &[u8], kind: u16) -> Content
     }
     let id = wire::be64(capture, 4);
     if kind == 2 {
-        return Content::Admit { id };
+        return Content::Admit {
+            id,
+            limit: LARGEST_LIMIT,
+        };
+    }
+    if kind == 5 {
+        let limit = limit_in(capture);
+        return Content::Admit { id, limit };
     }
     Content::Remove { id }
 }

@@ -1,4 +1,5 @@
--- Files that are no captures, by how they start. No record that document 01 knows starts so: its kind would be none of 1 to 3.
+-- Files that are no captures, by how they start. No record that a capture can have starts so: its kind would be
+-- none of 1, 2, 3 and 5 (request #107).
 use Prim.Native.Nat.{ℕ}
 use mathlib.Core.Bool.{cond}
 use mathlib.Core.List.{List, [], _∷_}

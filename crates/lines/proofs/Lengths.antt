@@ -5,7 +5,7 @@ use mathlib.Core.List.{List, _++_}
 use native.Mathlib.Omega.{arith}
 use lib.ListN.{length, length-append}
 use Rattle.presentation.specs.declared.Kind.{Kind}
-use Rattle.presentation.specs.declared.Kind.the-variants.{None, Cut, Outside, Late, Ahead, Unclear}
+use Rattle.presentation.specs.declared.Kind.the-variants.{None, Cut, Outside, Late, Ahead, Unclear, Far}
 use Rattle.presentation.specs.declared.Timing.{Timing}
 use Rattle.stream.specs.declared.Flags.{Flags}
 use Rattle.text.specs.Text.{ascii, decimal, signed}
@@ -33,6 +33,7 @@ kind-length Outside = omega arith
 kind-length Late = omega arith
 kind-length Ahead = omega arith
 kind-length Unclear = omega arith
+kind-length Far = omega arith
 
 pub timing-length : (t : Timing) → length (signed (t .offset)) ≤ 21 → length (timingText t) ≤ 43
 unfolding timingText

@@ -1,10 +1,10 @@
--- The lines of a listing (document 01, Capture and listing; request #106 for `unclear`). Each ends in a line feed.
+-- The lines of a listing (document 01, Capture and listing; request #106 for `unclear`, request #107 for `far`). Each ends in a line feed.
 use Prim.Native.Nat.{ℕ, _+_, _%_, _^_}
 use mathlib.Core.Bool.{Bool, true, false}
 use mathlib.Core.List.{List, _++_}
 use Rattle.refusal.specs.Refusals.{numberOf}
 use Rattle.presentation.specs.declared.Kind.{Kind}
-use Rattle.presentation.specs.declared.Kind.the-variants.{None, Cut, Outside, Late, Ahead, Unclear}
+use Rattle.presentation.specs.declared.Kind.the-variants.{None, Cut, Outside, Late, Ahead, Unclear, Far}
 use Rattle.presentation.specs.declared.Timing.{Timing}
 use Rattle.stream.specs.declared.Flags.{Flags}
 use Rattle.lines.specs.declared.Outcome.{Outcome}
@@ -54,6 +54,7 @@ kindWord Outside = ascii "outside"
 kindWord Late = ascii "late"
 kindWord Ahead = ascii "ahead"
 kindWord Unclear = ascii "unclear"
+kindWord Far = ascii "far"
 
 unfoldable pub timingText : Timing → List ℕ
 timingText t = ascii " time=" ++ kindWord (t .kind) ++ ascii " offset=" ++ signed (t .offset) ++ ascii "\n"

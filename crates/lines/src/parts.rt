@@ -56,6 +56,7 @@ fn put_kind(out: &mut [u8], at: usize, kind: Kind) -> usize
         Kind::Late => text::put(out, at, b" time=late offset="),
         Kind::Ahead => text::put(out, at, b" time=ahead offset="),
         Kind::Unclear => text::put(out, at, b" time=unclear offset="),
+        Kind::Far => text::put(out, at, b" time=far offset="),
     }
 }
 

@@ -19,7 +19,7 @@ use Rattle.listing.specs.Private.{Obeyed}
 pub length-after : (t : Table) (bytes : List ℕ) (h : Held) → length (step t bytes h .1) ≡ length t
 length-after t bytes (damaged number) = refl
 length-after t bytes (arrival L) = length-receive t (frameIn bytes) L
-length-after t bytes (admission id) = length-admit t id
+length-after t bytes (admission id limit) = length-admit limit t id
 length-after t bytes (removal id) = length-remove t id
 
 -- ---- the line, and the table afterwards
@@ -39,8 +39,8 @@ module _ (bytes : List ℕ) (t : Table) (o : Outcome) where
         table = ap (λ (f : List ℕ). receive t f L .1) is;
       }
 
-  pub obeys-admission : (id : ℕ) (c : Change) → changeNumber c ≡ admit t id .0 → lineOf o ≡ changeLine (changeNumber c) admitted → Obeyed t bytes (admission id) o (admit t id .1)
-  obeys-admission id c said line = record { line = line ∙ ap (λ (n : ℕ). changeLine n admitted) said; table = refl }
+  pub obeys-admission : (id limit : ℕ) (c : Change) → changeNumber c ≡ admit limit t id .0 → lineOf o ≡ changeLine (changeNumber c) admitted → Obeyed t bytes (admission id limit) o (admit limit t id .1)
+  obeys-admission id limit c said line = record { line = line ∙ ap (λ (n : ℕ). changeLine n admitted) said; table = refl }
 
   pub obeys-removal : (id : ℕ) (c : Change) → changeNumber c ≡ remove t id .0 → lineOf o ≡ changeLine (changeNumber c) removed → Obeyed t bytes (removal id) o (remove t id .1)
   obeys-removal id c said line = record { line = line ∙ ap (λ (n : ℕ). changeLine n removed) said; table = refl }

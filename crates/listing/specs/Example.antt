@@ -1,4 +1,4 @@
--- Document 01's whole listing: admit 1; a frame of stream 1 with L 1000, T 3000; a frame of stream 2; remove 1.
+-- Worked listings. Document 01's: admit 1; a frame of stream 1 with L 1000, T 3000; a frame of stream 2; remove 1.
 use Prim.Native.Nat.{ℕ, _+_}
 use mathlib.Core.Path.{_≡_}
 use mathlib.Core.List.{List, [], _∷_, _++_, map, reverse}
@@ -41,11 +41,27 @@ exampleListing =
     ++ ascii "4 removed\n"
     ++ ascii "end records=4\n"
 
+-- stream 1 is admitted with the limit 1,999, and has that frame; stream 2 is to be admitted with one that is too large (request #107)
+unfoldable pub limitCapture : List ℕ
+limitCapture =
+    recordBytes 5 (bytes 8 1 ++ reverse (bytes 4 1999))
+    ++ recordBytes 1 (reverse (bytes 8 1000) ++ soundFrame 1 3000)
+    ++ recordBytes 5 (bytes 8 2 ++ reverse (bytes 4 2_147_483_648))
+
+unfoldable pub limitListing : List ℕ
+limitListing =
+    ascii "avtp listing 1\n"
+    ++ ascii "1 admitted\n"
+    ++ ascii "2 frame seq=ok dbc=ok fmt=ok mr=ok time=far offset=2000\n"
+    ++ ascii "3 refused 24\n"
+    ++ ascii "end records=3\n"
+
 pub record WorkedExample : Type 0 where
   pub whole : listing exampleCapture ≡ exampleListing
   -- the stream that each record is about
   pub streams : map (λ (x : Said). x .stream) (visit exampleCapture .0) ≡ some 1 ∷ some 1 ∷ none ∷ some 1 ∷ []
   -- an empty capture lists the first and last line
   pub empty : listing [] ≡ ascii "avtp listing 1\nend records=0\n"
+  pub limits : listing limitCapture ≡ limitListing
   -- a cut record is listed and counted too
   pub cut : listing (take 15 exampleCapture) ≡ ascii "avtp listing 1\n1 admitted\n2 refused 41\nend records=2\n"

@@ -38,7 +38,7 @@ step t bytes (arrival L) =
     let received = receive t (frameIn bytes) L in
     let a = received .0 in
     (record { stream = frameStream a; line = frameLine a }, received .1)
-step t bytes (admission id) = (record { stream = some id; line = changeLine (admit t id .0) admitted }, admit t id .1)
+step t bytes (admission id limit) = (record { stream = some id; line = changeLine (admit limit t id .0) admitted }, admit limit t id .1)
 step t bytes (removal id) = (record { stream = some id; line = changeLine (remove t id .0) removed }, remove t id .1)
 
 -- ---- All of them

@@ -193,8 +193,8 @@ pub(crate) fn obey(table: &mut [Record], record: &[u8], content: Content) -> Out
             let received = outcome_of_receipt(receipt);
             received
         }
-        Content::Admit { id } => {
-            let change = table::admit(table, id);
+        Content::Admit { id, limit } => {
+            let change = table::admit(table, id, limit);
             let admitted = outcome_of_admission(change);
             admitted
         }

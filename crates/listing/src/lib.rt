@@ -4,6 +4,7 @@ pub mod chunk;
 ghost use Rattle.listing.specs.Listing.{Numbered, NothingShown};
 ghost use Rattle.listing.specs.InChunks.{ListedInChunks};
 ghost use Rattle.listing.specs.Example.{WorkedExample};
+ghost use Rattle.listing.specs.Unlimited.{UnlimitedWithout5};
 
 // The rules list document 01's capture as it does.
 fn worked_example()
@@ -18,6 +19,11 @@ fn numbered()
 // Where no line is shown there is no text.
 fn nothing_shown()
     ensures { λ _. ⌜ NothingShown ⌝ }
+{}
+
+// A capture without a record of kind 5 lists as it did before there were limits.
+fn unlimited_without_5()
+    ensures { λ _. ⌜ UnlimitedWithout5 ⌝ }
 {}
 
 // Listing a capture in any chunks is listing it whole.

@@ -1,6 +1,7 @@
--- Presentation time, as document 01's section of that name has it, in its order, with request #102 for T where SPH is 1 and request #106 for
--- the kind half a wrap away. L is the arrival time, T the stamp, d the offset.
-use Prim.Native.Nat.{ℕ, _+_}
+-- Presentation time, as document 01's section of that name has it, in its order, with request #102 for T where SPH is 1, request #106 for the
+-- kind half a wrap away and request #107 for the transit limit. L is the arrival time, T the stamp, d the offset; the limit is in nanoseconds,
+-- as these are.
+use Prim.Native.Nat.{ℕ, _+_, _<_, _≤_}
 use mathlib.Core.Path.{_≡_}
 use mathlib.Core.Bool.{Bool, false, cond}
 use mathlib.Core.List.{List}
@@ -14,7 +15,7 @@ use Rattle.source_packet.specs.declared.Start.{Start}
 use Rattle.source_packet.specs.declared.Start.the-variants.{Nowhere, Block}
 use Rattle.source_packet.specs.Blocks.{blockAt, firstStart}
 use Rattle.presentation.specs.declared.Kind.{Kind}
-use Rattle.presentation.specs.declared.Kind.the-variants.{None, Cut, Outside, Late, Ahead, Unclear}
+use Rattle.presentation.specs.declared.Kind.the-variants.{None, Cut, Outside, Late, Ahead, Unclear, Far}
 use Rattle.presentation.specs.declared.Timing.{Timing}
 use Rattle.presentation.specs.declared.Stamp.{Stamp}
 use Rattle.presentation.specs.declared.Stamp.the-variants.{Absent, Short, Present}
@@ -49,16 +50,16 @@ stampOf f payload = cond (f .cip .sph) (sourcePacketStamp (f .cip) payload) (avt
 abbrev pub untimed : Kind → ℤ → Timing
 untimed kind d = record { kind = kind; offset = d; time = 0 }
 
--- late for d below 0, ahead for d of 0 or more
-abbrev pub side : ℤ → Kind
-side (negsuc n) = Late
-side (pos n) = Ahead
+-- late for d below 0; for d of 0 or more, far "where d is above the limit" (request #107), else ahead
+abbrev pub side : ℕ → ℤ → Kind
+side limit (negsuc n) = Late
+side limit (pos n) = cond (ltb limit n) Far Ahead
 
 -- by d, where it is clear, and the sum L + d: outside where the sum is below 0 or above 18,446,744,073,709,551,615, with d still given; else
 -- the time is the sum
-unfoldable pub timed : ℤ → ℤ → Timing
-timed d (negsuc n) = untimed Outside d
-timed d (pos n) = cond (ltb 18_446_744_073_709_551_615 n) (untimed Outside d) (record { kind = side d; offset = d; time = n })
+unfoldable pub timed : ℕ → ℤ → ℤ → Timing
+timed limit d (negsuc n) = untimed Outside d
+timed limit d (pos n) = cond (ltb 18_446_744_073_709_551_615 n) (untimed Outside d) (record { kind = side limit d; offset = d; time = n })
 
 -- whether d is −2,147,483,648: the stamp is then as far behind as ahead
 abbrev pub isHalfWrap : ℤ → Bool
@@ -66,22 +67,44 @@ isHalfWrap (negsuc n) = eqb (n + 1) 2_147_483_648
 isHalfWrap (pos n) = false
 
 -- half a wrap away the kind is unclear, "with that offset and time 0, and it wins over outside" (request #106): it is asked first
-unfoldable pub timing : ℕ → ℕ → Timing
-timing L T = cond (isHalfWrap (offset L T)) (untimed Unclear (offset L T)) (timed (offset L T) (pos L +ℤ offset L T))
+unfoldable pub timingWithin : ℕ → ℕ → ℕ → Timing
+timingWithin limit L T = cond (isHalfWrap (offset L T)) (untimed Unclear (offset L T)) (timed limit (offset L T) (pos L +ℤ offset L T))
 
--- so it is unclear there, whatever L is, and nowhere else
+-- so it is unclear there, whatever L and the limit are, and nowhere else
 pub record UnclearAtHalfWrap : Type 0 where
-  pub there : (L T : ℕ) → offset L T ≡ negℤ (pos 2_147_483_648) → timing L T ≡ untimed Unclear (negℤ (pos 2_147_483_648))
-  pub only : (L T : ℕ) → timing L T .kind ≡ Unclear → offset L T ≡ negℤ (pos 2_147_483_648)
+  pub there : (limit L T : ℕ) → offset L T ≡ negℤ (pos 2_147_483_648) → timingWithin limit L T ≡ untimed Unclear (negℤ (pos 2_147_483_648))
+  pub only : (limit L T : ℕ) → timingWithin limit L T .kind ≡ Unclear → offset L T ≡ negℤ (pos 2_147_483_648)
+
+-- the largest limit, which "a reading without a record" takes (request #107)
+abbrev pub largestLimit : ℕ
+largestLimit = 2_147_483_647
+
+abbrev pub timing : ℕ → ℕ → Timing
+timing L T = timingWithin largestLimit L T
+
+pub record FarAboveLimit : Type 0 where
+  -- "where d is above the limit and L + d is not outside, the kind is far, time L + d", and nowhere else
+  pub there : (limit L T n : ℕ) → offset L T ≡ pos n → limit < n → L + n ≤ 18_446_744_073_709_551_615
+      → timingWithin limit L T ≡ record { kind = Far; offset = pos n; time = L + n }
+  pub only : (limit L T : ℕ) → timingWithin limit L T .kind ≡ Far → (n : ℕ) × (offset L T ≡ pos n) × (limit < n)
+  -- "the other kinds keep their rules": what is not far is what a reading without a record says, and that is never far
+  pub others : (limit L T : ℕ) → (timingWithin limit L T .kind ≡ Far → ⊥) → timingWithin limit L T ≡ timing L T
+  pub never : (L T : ℕ) → timing L T .kind ≡ Far → ⊥
+  -- a number above the largest limit, which a lent record may hold, says no more than that
+  pub above-largest : (limit L T : ℕ) → largestLimit ≤ limit → timingWithin limit L T ≡ timing L T
 
 -- ---- both
 
 -- without a stamp the kind is none, with one cut short it is cut, and offset and time are 0
-abbrev pub timingOf : ℕ → Stamp → Timing
-timingOf L Absent = untimed None (pos 0)
-timingOf L Short = untimed Cut (pos 0)
-timingOf L (Present T) = timing L T
+abbrev pub timingOf : ℕ → ℕ → Stamp → Timing
+timingOf limit L Absent = untimed None (pos 0)
+timingOf limit L Short = untimed Cut (pos 0)
+timingOf limit L (Present T) = timingWithin limit L T
 
--- the presentation time of a frame with these fields and this payload
-unfoldable pub presentation : ℕ → Fields → List ℕ → Timing
-presentation L f payload = timingOf L (stampOf f payload)
+-- the presentation time of a frame with these fields and this payload, of a stream with this limit
+unfoldable pub presentationWithin : ℕ → ℕ → Fields → List ℕ → Timing
+presentationWithin limit L f payload = timingOf limit L (stampOf f payload)
+
+-- and without a record
+abbrev pub presentation : ℕ → Fields → List ℕ → Timing
+presentation L f payload = presentationWithin largestLimit L f payload

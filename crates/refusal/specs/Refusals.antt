@@ -1,10 +1,10 @@
--- The numbers answered (document 01, Numbers answered; requests #101 and #105).
+-- The numbers answered (document 01, Numbers answered; requests #101, #105 and #107).
 use Prim.Native.Nat.{ℕ, zero, suc}
 use mathlib.Core.Bool.{Bool, not, cond}
 use mathlib.Core.List.{List, [], _∷_}
 use lib.Dec.{eqb}
 use Rattle.refusal.specs.declared.Refusal.{Refusal}
-use Rattle.refusal.specs.declared.Refusal.the-variants.{FrameTooShort, FrameTooLong, WrongTpid, CfiSet, WrongEthertype, ControlAvtpdu, WrongSubtype, WrongVersion, NoStreamId, WrongAddress, DataBeyondFrame, WrongTag, NoCipHeader, PartialBlock, NotAdmitted, WrongQpc, TableTooLong, AlreadyAdmitted, TableFull, NothingToRemove, WriteWrongAddress, WriteFieldTooWide, WritePartialBlock, WritePayloadTooLong, WriteOutputTooShort, RecordCut, RecordLength, RecordKind, CycleTooLarge, OffsetInCycleTooLarge, CycleSecondsTooLarge}
+use Rattle.refusal.specs.declared.Refusal.the-variants.{FrameTooShort, FrameTooLong, WrongTpid, CfiSet, WrongEthertype, ControlAvtpdu, WrongSubtype, WrongVersion, NoStreamId, WrongAddress, DataBeyondFrame, WrongTag, NoCipHeader, PartialBlock, NotAdmitted, WrongQpc, TableTooLong, AlreadyAdmitted, TableFull, NothingToRemove, LimitTooLarge, WriteWrongAddress, WriteFieldTooWide, WritePartialBlock, WritePayloadTooLong, WriteOutputTooShort, RecordCut, RecordLength, RecordKind, CycleTooLarge, OffsetInCycleTooLarge, CycleSecondsTooLarge}
 use Rattle.refusal.specs.declared.Verdict.{Verdict}
 use Rattle.refusal.specs.declared.Verdict.the-variants.{Passed, Refused}
 
@@ -29,6 +29,7 @@ numberOf TableTooLong = 20
 numberOf AlreadyAdmitted = 21
 numberOf TableFull = 22
 numberOf NothingToRemove = 23
+numberOf LimitTooLarge = 24
 numberOf WriteWrongAddress = 31
 numberOf WriteFieldTooWide = 32
 numberOf WritePartialBlock = 33

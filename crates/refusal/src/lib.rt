@@ -20,11 +20,12 @@ pub enum Refusal {
     PartialBlock,
     NotAdmitted,
     WrongQpc,
-    // Tables: 20 to 23.
+    // Tables: 20 to 23, and 24 (request #107), which is asked between 21 and 22.
     TableTooLong,
     AlreadyAdmitted,
     TableFull,
     NothingToRemove,
+    LimitTooLarge,
     // Writing a frame: 31 to 35.
     WriteWrongAddress,
     WriteFieldTooWide,
@@ -71,6 +72,7 @@ pub fn number(refusal: Refusal) -> u8
         Refusal::AlreadyAdmitted => 21,
         Refusal::TableFull => 22,
         Refusal::NothingToRemove => 23,
+        Refusal::LimitTooLarge => 24,
         Refusal::WriteWrongAddress => 31,
         Refusal::WriteFieldTooWide => 32,
         Refusal::WritePartialBlock => 33,

@@ -7,7 +7,7 @@ use native.Mathlib.Omega.{arith}
 use lib.Dec.{ltb}
 use lib.ListN.{length, length-append}
 use borrow.Author.Tests.{ltb-true, ltb-false}
-use Rattle.presentation.specs.declared.Kind.the-variants.{None, Cut, Outside, Late, Ahead, Unclear}
+use Rattle.presentation.specs.declared.Kind.the-variants.{None, Cut, Outside, Late, Ahead, Unclear, Far}
 use Rattle.tally.specs.declared.Kinds.{Kinds}
 use Rattle.tally.specs.Tally.{raised, raisedIf, kindsAfter}
 use Rattle.stream.specs.declared.Counts.{Counts}
@@ -82,4 +82,5 @@ kinds-more xs x k e =
     let late = kind-more (isKind Late) xs x _ (ap (λ (k : Kinds). k .late) e) in
     let ahead = kind-more (isKind Ahead) xs x _ (ap (λ (k : Kinds). k .ahead) e) in
     let unclear = kind-more (isKind Unclear) xs x _ (ap (λ (k : Kinds). k .unclear) e) in
-    λ i. record { none = none i; cut = cut i; outside = outside i; late = late i; ahead = ahead i; unclear = unclear i }
+    let far = kind-more (isKind Far) xs x _ (ap (λ (k : Kinds). k .far) e) in
+    λ i. record { none = none i; cut = cut i; outside = outside i; late = late i; ahead = ahead i; unclear = unclear i; far = far i }

@@ -12,12 +12,13 @@ use borrow.Author.Tests.{eqb-true, eqb-false, eq-eqb, ne-eqb, not-false}
 use Rattle.refusal.specs.Refusals.{ifAccepted, firstOf}
 use Rattle.refusal.proofs.First.{clear}
 use Rattle.stream.specs.declared.Record.{Record}
-use Rattle.stream.specs.Records.{unused, admitted}
+use Rattle.stream.specs.Records.{unused, admittedWithin}
 use Rattle.stream.specs.Answers.{Answer, answerOf, refusedWith, after, idOf}
 use Rattle.stream.proofs.Laws.{after-id}
 use Rattle.table.specs.Table.{Table, holds, isUnused, any, place, at, admitChecks, removeChecks, numberWith, receive, admit, remove}
 use Rattle.arrivals.specs.Arrivals.{StreamRecord}
-use Rattle.arrivals.proofs.Places.{at-getD, at-set-other, held, place-stream, number-any}
+use Rattle.table.proofs.Receiving.{number-any}
+use Rattle.arrivals.proofs.Places.{at-getD, at-set-other, held, place-stream}
 use Rattle.capture.specs.Records.{Held, damaged, arrival, admission, removal, frameIn}
 use Rattle.capture.proofs.Kept.{kept}
 use Rattle.lines.specs.Lines.{admitted as line-admitted, removed as line-removed, refused}
@@ -67,7 +68,7 @@ since-more id shown (y ∷ said) x = since-more id (more y (λ id. shown) id) sa
 
 -- ---- P holds of a record newly admitted of which nothing is shown, and goes on with each accepted frame
 
-module _ (P : Record → List ListedFrame → Type 0) (none-yet : (id : ℕ) → P (admitted id) [])
+module _ (P : Record → List ListedFrame → Type 0) (none-yet : (id limit : ℕ) → P (admittedWithin id limit) [])
     (one-more : (r : Record) (shown : List ListedFrame) (frame : List ℕ) (L : ℕ) → P r shown
     → P (after r frame L) (shown ++ (shownOf (answerOf r frame L) ∷ []))) where
   -- and no two records in use hold one id
@@ -146,14 +147,14 @@ module _ (P : Record → List ListedFrame → Type 0) (none-yet : (id : ℕ) →
           (λ i s n h u v z. other-id k home r x i s n h u (sym (z ∙ named))))
 
     module _ (id : ℕ) where
-      after-admission : (n : ℕ) → firstOf (admitChecks t id) ≡ n → Follows (ifAccepted n (set t (place isUnused t) (admitted id)) t) (more (record { stream = some id; line = changeLine n line-admitted }) f)
-      unfolding admitted
-      after-admission (suc n) e = after-refusal id (suc n)
-      after-admission zero e =
-          let none = clear (admitChecks t id) tt e in
+      after-admission : (limit n : ℕ) → firstOf (admitChecks limit t id) ≡ n → Follows (ifAccepted n (set t (place isUnused t) (admittedWithin id limit)) t) (more (record { stream = some id; line = changeLine n line-admitted }) f)
+      unfolding admittedWithin
+      after-admission limit (suc n) e = after-refusal id (suc n)
+      after-admission limit zero e =
+          let none = clear (admitChecks limit t id) tt e in
           let not-held : (i : ℕ) (r : Record) → getElem? t i ≡ some r → r .«in_use» ≡ true → id ≢ r .id = λ i r h u z. false≢true (sym (none .1 .0) ∙ any-at (holds id) t i r h (held id r u (sym z))) in
-          with-set t f _ (place isUnused t) (admitted id) was
-          (λ u. rw (eq-eqb id id refl) (none-yet id))
+          with-set t f _ (place isUnused t) (admittedWithin id limit) was
+          (λ u. rw (eq-eqb id id refl) (none-yet id limit))
           (λ i r n h u. rw (ne-eqb id (r .id) (not-held i r h u)))
           (λ i r n h u v z. not-held i r h u (sym z))
 
@@ -172,7 +173,7 @@ module _ (P : Record → List ListedFrame → Type 0) (none-yet : (id : ℕ) →
     unfolding receive admit remove
     after-record bytes (damaged n) = was
     after-record bytes (arrival L) = after-arrival (frameIn bytes) L (numberWith t (frameIn bytes)) refl
-    after-record bytes (admission id) = after-admission id (firstOf (admitChecks t id)) refl
+    after-record bytes (admission id limit) = after-admission id limit (firstOf (admitChecks limit t id)) refl
     after-record bytes (removal id) = after-removal id (firstOf (removeChecks t id)) refl
 
   -- ---- all of them

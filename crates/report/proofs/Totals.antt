@@ -7,7 +7,7 @@ use lib.ListN.{take}
 use Rattle.tally.specs.declared.Tally.{Tally}
 use Rattle.tally.specs.Tally.{noTally, mostSummed, counted}
 use Rattle.stream.specs.declared.Record.{Record}
-use Rattle.stream.specs.Records.{admitted}
+use Rattle.stream.specs.Records.{admittedWithin}
 use Rattle.stream.specs.Answers.{answerOf, after}
 use Rattle.stream.proofs.Laws.{after-tally}
 use Rattle.listing.specs.Listing.{visit}
@@ -25,9 +25,9 @@ record Holds (r : Record) (xs : List ListedFrame) : Type 0 where
   pub kinds : r .tally .kinds ≡ kindsOf xs
   pub sums : SumsOf mostSummed (r .tally .sums) (offsets xs)
 
-none-yet : (id : ℕ) → Holds (admitted id) []
-unfolding admitted noTally howMany countsOf kindsOf offsets
-none-yet id = record { counts = refl; kinds = refl; sums = record { summed = refl; unsummed = refl; stands = (refl, refl, refl); small = omega arith } }
+none-yet : (id limit : ℕ) → Holds (admittedWithin id limit) []
+unfolding admittedWithin noTally howMany countsOf kindsOf offsets
+none-yet id limit = record { counts = refl; kinds = refl; sums = record { summed = refl; unsummed = refl; stands = (refl, refl, refl); small = omega arith } }
 
 one-more : (r : Record) (xs : List ListedFrame) (frame : List ℕ) (L : ℕ) → Holds r xs
     → Holds (after r frame L) (xs ++ (shownOf (answerOf r frame L) ∷ []))

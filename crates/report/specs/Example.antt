@@ -1,5 +1,5 @@
--- A line of a report, the report of document 01's capture and of its parts, that of a visit with a removal, and that of stamps about half a
--- wrap away.
+-- A line of a report, the report of document 01's capture and of its parts, that of a visit with a removal, that of stamps about half a wrap
+-- away, and that of streams with limits.
 use Prim.Native.Nat.{ℕ}
 use mathlib.Core.Path.{_≡_}
 use mathlib.Core.Bool.{true, false}
@@ -60,9 +60,9 @@ visitCapture =
 
 unfoldable pub visitReport : List ℕ
 visitReport =
-    ascii "3 0 0 0 0 0 0 0 0 0 0 0 none none none none 0\n"
-    ++ ascii "12 10 3 2 1 5 2 0 1 3 4 0 -16 6 -14 -14/7 0\n"
-    ++ ascii "1 0 0 0 0 0 0 0 0 0 0 0 none none none none 0\n"
+    ascii "3 0 0 0 0 0 0 0 0 0 0 0 0 none none none none 0\n"
+    ++ ascii "12 10 3 2 1 5 2 0 1 3 4 0 0 -16 6 -14 -14/7 0\n"
+    ++ ascii "1 0 0 0 0 0 0 0 0 0 0 0 0 none none none none 0\n"
 
 -- stream 12 has two frames half a wrap away, of which the first would otherwise be outside and the second late; one that is a nanosecond
 -- nearer, and is outside; one late and one ahead
@@ -75,6 +75,22 @@ halfWrapCapture =
     ++ frameAt 1000 stamped 3 995 dbc0
     ++ frameAt 1000 stamped 4 1006 dbc0
 
+-- stream 12 is admitted with the limit 5, and stream 1 with the largest. Both have a frame ahead by 6, which is far for stream 12 alone; stream
+-- 12 also has one ahead by its limit and one late by more than that
+unfoldable pub limitCapture : List ℕ
+limitCapture =
+    recordBytes 5 (bytes 8 12 ++ reverse (bytes 4 5))
+    ++ recordBytes 2 (bytes 8 1)
+    ++ frameAt 1000 stamped 0 1005 dbc0
+    ++ frameAt 1000 stamped 1 1006 dbc0
+    ++ frameAt 1000 stamped 2 993 dbc0
+    ++ recordBytes 1 (reverse (bytes 8 1000) ++ soundFrame 1 1006)
+
+unfoldable pub limitReport : List ℕ
+limitReport =
+    ascii "12 3 0 0 0 0 0 0 0 1 1 0 1 -7 5 -2 -2/2 0\n"
+    ++ ascii "1 1 0 0 0 0 0 0 0 0 1 0 0 6 6 6 6/1 0\n"
+
 -- a record in which each column is another number: three offsets were summed that come to −14, from −16 to 11
 abbrev sampleRecord : Record
 sampleRecord =
@@ -85,26 +101,28 @@ sampleRecord =
       sequence = 0;
       «next_dbc» = 0;
       mr = false;
+      limit = 0;
       format = record { fmt = 0; dbs = 0; «fraction_number» = 0; sph = false };
-      counts = record { frames = 55; «sequence_breaks» = 1; «block_breaks» = 2; «format_changes» = 4; «mr_changes» = 5 };
+      counts = record { frames = 72; «sequence_breaks» = 1; «block_breaks» = 2; «format_changes» = 4; «mr_changes» = 5 };
       tally =
           record {
-            kinds = record { none = 6; cut = 7; outside = 8; late = 9; ahead = 10; unclear = 15 };
+            kinds = record { none = 6; cut = 7; outside = 8; late = 9; ahead = 10; unclear = 15; far = 17 };
             sums = record { «smallest_below» = 2_147_483_663; «largest_above» = 2_147_483_659; «sum_above» = 6_442_450_930; summed = 3; unsummed = 16 };
           };
     }
 
 pub record WorkedReport : Type 0 where
   -- every column of a line, in its place
-  pub columns : recordText sampleRecord ≡ ascii "12 55 1 2 4 5 6 7 8 9 10 15 -16 11 -14 -14/3 16\n"
+  pub columns : recordText sampleRecord ≡ ascii "12 72 1 2 4 5 6 7 8 9 10 15 17 -16 11 -14 -14/3 16\n"
   -- the stream is admitted
-  pub admitted : report (take 12 exampleCapture) ≡ ascii "1 0 0 0 0 0 0 0 0 0 0 0 none none none none 0\n"
+  pub admitted : report (take 12 exampleCapture) ≡ ascii "1 0 0 0 0 0 0 0 0 0 0 0 0 none none none none 0\n"
   -- and has a frame with L 1000, T 3000; then another stream, which is not admitted, has one
-  pub frame : report (take 136 exampleCapture) ≡ ascii "1 1 0 0 0 0 0 0 0 0 1 0 2000 2000 2000 2000/1 0\n"
+  pub frame : report (take 136 exampleCapture) ≡ ascii "1 1 0 0 0 0 0 0 0 0 1 0 0 2000 2000 2000 2000/1 0\n"
   -- and is removed at the end
   pub removed : report exampleCapture ≡ []
   pub whole-visit : report visitCapture ≡ visitReport
-  pub half-a-wrap : report halfWrapCapture ≡ ascii "12 5 0 0 0 0 0 0 1 1 1 2 -5 6 1 1/2 0\n"
+  pub half-a-wrap : report halfWrapCapture ≡ ascii "12 5 0 0 0 0 0 0 1 1 1 2 0 -5 6 1 1/2 0\n"
+  pub limits : report limitCapture ≡ limitReport
   -- an empty capture has no line, and one that is cut is reported on as far as it goes
   pub empty : report [] ≡ []
   pub cut : report (take 15 exampleCapture) ≡ report (take 12 exampleCapture)

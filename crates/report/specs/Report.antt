@@ -1,4 +1,4 @@
--- The visit report of a capture (requests #104 and #106), made of the listing's own lines, for the streams that the table holds at the end.
+-- The visit report of a capture (requests #104, #106 and #107), made of the listing's own lines, for the streams that the table holds at the end.
 use Prim.Native.Nat.{ℕ, suc, _-_, min}
 use mathlib.Core.Bool.{Bool, false, cond}
 use mathlib.Core.List.{List, [], _∷_, _++_}
@@ -8,7 +8,7 @@ use lib.IntN.{ℤ, _+ℤ_}
 use lib.Signed.{ltZ}
 use lib.ListN.{length, take}
 use Rattle.presentation.specs.declared.Kind.{Kind}
-use Rattle.presentation.specs.declared.Kind.the-variants.{None, Cut, Outside, Late, Ahead, Unclear}
+use Rattle.presentation.specs.declared.Kind.the-variants.{None, Cut, Outside, Late, Ahead, Unclear, Far}
 use Rattle.presentation.specs.declared.Timing.{Timing}
 use Rattle.tally.specs.declared.Kinds.{Kinds}
 use Rattle.tally.specs.Tally.{sameKind, isTimed, mostSummed}
@@ -80,6 +80,7 @@ kindsOf xs =
       late = capped64 (howMany (isKind Late) xs);
       ahead = capped64 (howMany (isKind Ahead) xs);
       unclear = capped64 (howMany (isKind Unclear) xs);
+      far = capped64 (howMany (isKind Far) xs);
     }
 
 -- ---- Smallest, largest, sum and mean

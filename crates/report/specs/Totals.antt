@@ -41,4 +41,4 @@ ReportOfTable = (capture : List ℕ) → report capture ≡ tableText (visit cap
 -- in every line the kinds add up to the accepted frames, while that count is below its cap
 abbrev pub KindsAddUp : Type 0
 KindsAddUp = (xs : List ListedFrame) → countsOf xs .frames < 4_294_967_295
-    → (let k = kindsOf xs in k .none + k .cut + k .outside + k .late + k .ahead + k .unclear ≡ countsOf xs .frames)
+    → (let k = kindsOf xs in k .none + k .cut + k .outside + k .late + k .ahead + k .unclear + k .far ≡ countsOf xs .frames)

@@ -38,5 +38,5 @@ pub line-in-parts : (id : ℕ) (counts : Counts) (kinds : Kinds) (sums : List �
 unfolding streamLine
 line-in-parts id counts kinds sums unsummed = append-assoc (column (decimal id) ++ countsText counts ++ kindsText kinds ++ sums) (decimal unsummed) (ascii "\n")
 
-pub line-length : (id : ℕ) (counts : Counts) (kinds : Kinds) (sums : List ℕ) (unsummed : ℕ) → length (column (decimal id)) ≤ 21 → length (countsText counts) ≤ 105 → length (kindsText kinds) ≤ 126 → length sums ≤ 109 → length (decimal unsummed ++ ascii "\n") ≤ 21 → length (streamLine id counts kinds sums unsummed) ≤ 382
+pub line-length : (id : ℕ) (counts : Counts) (kinds : Kinds) (sums : List ℕ) (unsummed : ℕ) → length (column (decimal id)) ≤ 21 → length (countsText counts) ≤ 105 → length (kindsText kinds) ≤ 147 → length sums ≤ 109 → length (decimal unsummed ++ ascii "\n") ≤ 21 → length (streamLine id counts kinds sums unsummed) ≤ 403
 line-length id counts kinds sums unsummed f g h i j = rw (line-in-parts id counts kinds sums unsummed, five (column (decimal id)) (countsText counts) (kindsText kinds) sums (decimal unsummed ++ ascii "\n")) (omega arith)

@@ -20,10 +20,10 @@ table-end (s ∷ t) r = ap (λ (x : List ℕ). usedText s ++ x) (table-end t r) 
 pub record Upto (table : List Record) (i : ℕ) (d out : List ℕ) (at : ℕ) : Type 0 where
   pub few : i ≤ 64
   pub put : PutInTurn d 0 (tableText (take i table)) out at
-  pub short : length (tableText (take i table)) ≤ 382 * i
+  pub short : length (tableText (take i table)) ≤ 403 * i
 
 module _ (table : List Record) (i : ℕ) {d d₁ : List ℕ} {m : ℕ} (u : Upto table i d d₁ m) (whole : length table ≡ 64) where
-  pub one-more : (r : Record) {d₂ : List ℕ} {e : ℕ} → i < 64 → PutInTurn d₁ m (usedText (getD table i r)) d₂ e → length (usedText (getD table i r)) ≤ 382 → Upto table (i + 1) d d₂ e
+  pub one-more : (r : Record) {d₂ : List ℕ} {e : ℕ} → i < 64 → PutInTurn d₁ m (usedText (getD table i r)) d₂ e → length (usedText (getD table i r)) ≤ 403 → Upto table (i + 1) d d₂ e
   one-more r h q l =
       let next : tableText (take (i + 1) table) ≡ tableText (take i table) ++ usedText (getD table i r) = ap tableText (rw add-one (take-suc table i r (omega arith))) ∙ table-end (take i table) (getD table i r) in
       let sum = length-append (tableText (take i table)) (usedText (getD table i r)) in
@@ -36,7 +36,7 @@ module _ (table : List Record) (i : ℕ) {d d₁ : List ℕ} {m : ℕ} (u : Upto
   pub all-put : 64 ≤ i → PutInTurn d 0 (tableText table) d₁ m
   all-put h = rw (take-all i table (omega arith)) at (u .put)
 
-  pub table-length : 64 ≤ i → length (tableText table) ≤ 24_448
+  pub table-length : 64 ≤ i → length (tableText table) ≤ 25_792
   table-length h =
-      let s : length (tableText table) ≤ 382 * i = rw (take-all i table (omega arith)) at (u .short) in
+      let s : length (tableText table) ≤ 403 * i = rw (take-all i table (omega arith)) at (u .short) in
       omega (arith, s, u .few)

@@ -1,4 +1,4 @@
--- The lines of a visit report (requests #104 and #106). Columns are decimal, one space between, and a line ends in a line feed.
+-- The lines of a visit report (requests #104, #106 and #107). Columns are decimal, one space between, and a line ends in a line feed.
 use Prim.Native.Nat.{ℕ}
 use mathlib.Core.Bool.{cond}
 use mathlib.Core.List.{List, [], _∷_, _++_}
@@ -25,7 +25,7 @@ countsText c =
     ++ column (decimal (c .«format_changes»))
     ++ column (decimal (c .«mr_changes»))
 
--- none, cut, outside, late, ahead, unclear
+-- none, cut, outside, late, ahead, unclear (request #106), far (request #107)
 unfoldable pub kindsText : Kinds → List ℕ
 kindsText k =
     column (decimal (k .none))
@@ -34,6 +34,7 @@ kindsText k =
     ++ column (decimal (k .late))
     ++ column (decimal (k .ahead))
     ++ column (decimal (k .unclear))
+    ++ column (decimal (k .far))
 
 -- the mean as the sum over its count, unreduced
 unfoldable pub meanText : ℤ → ℕ → List ℕ

@@ -59,14 +59,15 @@ fn put_counts(out: &mut [u8], at: usize, counts: Counts) -> usize
 
 fn put_kinds(out: &mut [u8], at: usize, kinds: Kinds) -> usize
     ensures { λ r. ⌜ PutInTurn (now (out .entry)) at (kindsText kinds) (now (out .exit)) r ⌝ }
-    ensures { λ _. ⌜ length (kindsText kinds) ≤ 126 ⌝ }
+    ensures { λ _. ⌜ length (kindsText kinds) ≤ 147 ⌝ }
 {
     let a = put_column(out, at, kinds.none);
     let b = put_column(out, a, kinds.cut);
     let c = put_column(out, b, kinds.outside);
     let d = put_column(out, c, kinds.late);
     let e = put_column(out, d, kinds.ahead);
-    put_column(out, e, kinds.unclear)
+    let f = put_column(out, e, kinds.unclear);
+    put_column(out, f, kinds.far)
 }
 
 // The sum over its count, and a space.
@@ -106,7 +107,7 @@ fn put_last(out: &mut [u8], at: usize, n: u64) -> usize
 
 fn put_stream(out: &mut [u8], at: usize, r: Record) -> usize
     ensures { λ e. ⌜ PutInTurn (now (out .entry)) at (recordText r) (now (out .exit)) e ⌝ }
-    ensures { λ _. ⌜ length (recordText r) ≤ 382 ⌝ }
+    ensures { λ _. ⌜ length (recordText r) ≤ 403 ⌝ }
 {
     let a = put_column(out, at, r.id);
     let b = put_counts(out, a, r.counts);
@@ -118,7 +119,7 @@ fn put_stream(out: &mut [u8], at: usize, r: Record) -> usize
 // A record that is not in use has no line.
 fn put_used(out: &mut [u8], at: usize, r: Record) -> usize
     ensures { λ e. ⌜ PutInTurn (now (out .entry)) at (usedText r) (now (out .exit)) e ⌝ }
-    ensures { λ _. ⌜ length (usedText r) ≤ 382 ⌝ }
+    ensures { λ _. ⌜ length (usedText r) ≤ 403 ⌝ }
 {
     if r.in_use {
         return put_stream(out, at, r);
@@ -126,10 +127,10 @@ fn put_used(out: &mut [u8], at: usize, r: Record) -> usize
     at
 }
 
-// The lines of a table, at the front of the buffer. They have at most 24,448 bytes.
+// The lines of a table, at the front of the buffer. They have at most 25,792 bytes.
 pub fn put_table(out: &mut [u8], table: [Record; 64]) -> usize
     ensures { λ e. ⌜ PutInTurn (now (out .entry)) 0 (tableText table) (now (out .exit)) e ⌝ }
-    ensures { λ _. ⌜ length (tableText table) ≤ 24_448 ⌝ }
+    ensures { λ _. ⌜ length (tableText table) ≤ 25_792 ⌝ }
 {
     let mut at = 0;
     let mut i = 0;

@@ -9,7 +9,7 @@ use Rattle.frame.specs.Layout.{fieldsOf}
 use Rattle.frame.specs.Reading.{payloadOf, blocksOf}
 use Rattle.tally.specs.Tally.{counted}
 use Rattle.stream.specs.declared.Record.{Record}
-use Rattle.stream.specs.Records.{noCounts, admitted, flagsOf, bump, countsAfter, recordAfter}
+use Rattle.stream.specs.Records.{noCounts, admittedWithin, flagsOf, bump, countsAfter, recordAfter}
 use Rattle.stream.specs.Step.{stepped}
 use Rattle.stream.specs.Answers.{stepOf, answerOf, after}
 
@@ -22,10 +22,19 @@ pub after-id : (r : Record) (frame : List ℕ) (L : ℕ) → after r frame L .id
 unfolding after stepOf stepped recordAfter
 after-id r frame L = refl
 
+-- and its limit, which admission gives
+pub admitted-limit : (k limit : ℕ) → admittedWithin k limit .limit ≡ limit
+unfolding admittedWithin
+admitted-limit k limit = refl
+
+pub after-limit : (r : Record) (frame : List ℕ) (L : ℕ) → after r frame L .limit ≡ r .limit
+unfolding after stepOf stepped recordAfter
+after-limit r frame L = refl
+
 -- a newly admitted stream has counted nothing
-pub admitted-counts : (k : ℕ) → admitted k .counts ≡ noCounts
-unfolding admitted
-admitted-counts k = refl
+pub admitted-counts : (k limit : ℕ) → admittedWithin k limit .counts ≡ noCounts
+unfolding admittedWithin
+admitted-counts k limit = refl
 
 -- each count goes up with its flag
 module _ (r : Record) (frame : List ℕ) (L : ℕ) where
@@ -58,9 +67,9 @@ after-tally r frame L = refl
 abbrev pub Expects : Record → ℕ → ℕ → Type 0
 Expects r sequence dbc = (r .seen ≡ false) ⊎ (((r .sequence + 1) % 256 ≡ sequence) × (r .«next_dbc» ≡ dbc))
 
-pub expects-any : (k sequence dbc : ℕ) → Expects (admitted k) sequence dbc
-unfolding admitted
-expects-any k sequence dbc = inl refl
+pub expects-any : (k limit sequence dbc : ℕ) → Expects (admittedWithin k limit) sequence dbc
+unfolding admittedWithin
+expects-any k limit sequence dbc = inl refl
 
 module _ (r : Record) (frame : List ℕ) (L : ℕ) where
   -- a frame with the numbers that are expected breaks neither sequence nor block count

@@ -1,4 +1,4 @@
--- A stream's record and what an accepted frame makes of it (document 01, Stream records).
+-- A stream's record and what an accepted frame makes of it (document 01, Stream records; requests #104 and #107).
 use Prim.Native.Nat.{ℕ, _+_, _%_}
 use mathlib.Core.Path.{_≡_}
 use mathlib.Core.Bool.{Bool, true, false, not, _&&_, _||_, cond, Bool·beq}
@@ -11,6 +11,7 @@ use Rattle.refusal.specs.Refusals.{differs}
 use Rattle.frame.specs.Layout.{fieldsOf}
 use Rattle.frame.specs.Reading.{blocksOf}
 use Rattle.presentation.specs.declared.Timing.{Timing}
+use Rattle.presentation.specs.Presentation.{largestLimit}
 use Rattle.tally.specs.declared.Tally.{Tally}
 use Rattle.tally.specs.Tally.{noTally, counted}
 use Rattle.stream.specs.declared.Format.{Format}
@@ -36,14 +37,15 @@ unused =
       sequence = 0;
       «next_dbc» = 0;
       mr = false;
+      limit = 0;
       format = noFormat;
       counts = noCounts;
       tally = noTally;
     }
 
--- after admission it holds the id, nothing seen and zero in every other field and count
-unfoldable pub admitted : ℕ → Record
-admitted id =
+-- after admission it holds the id and the transit limit (request #107), nothing seen and zero in every other field and count
+unfoldable pub admittedWithin : ℕ → ℕ → Record
+admittedWithin id limit =
     record {
       «in_use» = true;
       seen = false;
@@ -51,34 +53,40 @@ admitted id =
       sequence = 0;
       «next_dbc» = 0;
       mr = false;
+      limit = limit;
       format = noFormat;
       counts = noCounts;
       tally = noTally;
     }
 
--- nothing in them but the id and that it is admitted: the rest is what fifty zero bytes hold, no count and no tally
+-- with the largest limit, which is as good as none
+abbrev pub admitted : ℕ → Record
+admitted id = admittedWithin id largestLimit
+
+-- nothing in them but the id, the limit and that it is admitted: the rest is what fifty zero bytes hold, no count and no tally
 abbrev pub ZeroRecords : Type 0
 ZeroRecords =
     (let zeros = fieldsOf (replicate 50 0) in
     let none : Counts = record { frames = 0; «sequence_breaks» = 0; «block_breaks» = 0; «format_changes» = 0; «mr_changes» = 0 } in
     let nothing : Tally =
     record {
-      kinds = record { none = 0; cut = 0; outside = 0; late = 0; ahead = 0; unclear = 0 };
+      kinds = record { none = 0; cut = 0; outside = 0; late = 0; ahead = 0; unclear = 0; far = 0 };
       sums = record { «sum_above» = 0; unsummed = 0; summed = 0; «largest_above» = 0; «smallest_below» = 0 };
     } in
-    let blank : Bool → ℕ → Record =
-    λ used id. record {
+    let blank : Bool → ℕ → ℕ → Record =
+    λ used id limit. record {
       «in_use» = used;
       seen = false;
       id = id;
       sequence = zeros .header .avtp .sequence;
       «next_dbc» = zeros .cip .dbc;
       mr = zeros .header .avtp .mr;
+      limit = limit;
       format = record { fmt = zeros .cip .fmt; dbs = zeros .cip .dbs; «fraction_number» = zeros .cip .«fraction_number»; sph = zeros .cip .sph };
       counts = none;
       tally = nothing;
     } in
-    (unused ≡ blank false 0) × ((id : ℕ) → admitted id ≡ blank true id))
+    (unused ≡ blank false 0 0) × ((id limit : ℕ) → admittedWithin id limit ≡ blank true id limit))
 
 -- ---- Flags, judged on the record as it stood
 
@@ -131,7 +139,8 @@ countsAfter c raised =
       «mr_changes» = bump (raised .mr) (c .«mr_changes»);
     }
 
--- what request #104 has it hold beside document 01's list is counted by the frame's presentation time
+-- what request #104 has it hold beside document 01's list is counted by the frame's presentation time, and the limit is "kept until removal"
+-- (request #107)
 unfoldable pub recordAfter : Record → Fields → List ℕ → Flags → Timing → Record
 recordAfter r f payload raised timing =
     record {
@@ -141,6 +150,7 @@ recordAfter r f payload raised timing =
       sequence = f .header .avtp .sequence;
       «next_dbc» = nextDbc (f .cip .dbc) (blocksOf payload (f .cip .dbs));
       mr = f .header .avtp .mr;
+      limit = r .limit;
       format = formatOf (f .cip);
       counts = countsAfter (r .counts) raised;
       tally = counted timing (r .tally);

@@ -3,7 +3,7 @@
 use Prim.Native.Nat.{ℕ}
 use mathlib.Core.List.{List}
 use Rattle.frame.specs.declared.layout.Fields.{Fields}
-use Rattle.presentation.specs.Presentation.{presentation}
+use Rattle.presentation.specs.Presentation.{presentationWithin}
 use Rattle.stream.specs.declared.Record.{Record}
 use Rattle.stream.specs.declared.Stepped.{Stepped}
 use Rattle.stream.specs.Records.{flagsOf, recordAfter}
@@ -11,7 +11,7 @@ use Rattle.stream.specs.Records.{flagsOf, recordAfter}
 unfoldable pub stepped : Record → Fields → List ℕ → ℕ → Stepped
 stepped r f payload L =
     record {
-      after = recordAfter r f payload (flagsOf r f) (presentation L f payload);
+      after = recordAfter r f payload (flagsOf r f) (presentationWithin (r .limit) L f payload);
       flags = flagsOf r f;
-      timing = presentation L f payload;
+      timing = presentationWithin (r .limit) L f payload;
     }

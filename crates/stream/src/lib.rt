@@ -8,7 +8,7 @@ use tally::Tally;
 ghost use mathlib.Core.Path.{_≡_};
 ghost use denote.Ref.{ptr};
 ghost use Rattle.wire.specs.Parts.{StandsIn};
-ghost use Rattle.stream.specs.Records.{unused, admitted, ZeroRecords, formatOf, formatChange, sequenceBreak, flagsOf, nextDbc, bump, countsAfter, recordAfter};
+ghost use Rattle.stream.specs.Records.{unused, admittedWithin, ZeroRecords, formatOf, formatChange, sequenceBreak, flagsOf, nextDbc, bump, countsAfter, recordAfter};
 ghost use Rattle.stream.specs.Step.{stepped};
 ghost use Rattle.stream.specs.Answers.{receiptAnswer, PayloadThere, RefusedAnswer};
 ghost use Rattle.stream.specs.Examples.{MarkedExamples};
@@ -30,8 +30,8 @@ pub struct Counts {
     pub mr_changes: u32,
 }
 
-// Eight bytes of small fields stand before the id, so that a record has 120 bytes: with 128 of them what is done for a frame takes up to 15 ns
-// more.
+// A record has 136 bytes. Small fields stand side by side, but no order of the fields leaves less than 128, and with that a report took longer
+// (docs/changes/106.md).
 pub struct Record {
     pub in_use: bool,
     // a frame has been accepted since admission
@@ -41,6 +41,8 @@ pub struct Record {
     pub next_dbc: u8,
     pub format: Format,
     pub id: u64,
+    // the transit limit, in nanoseconds: a stamp ahead by more than this is far
+    pub limit: u32,
     pub mr: bool,
     pub counts: Counts,
     // what the visit report says of its presentation times; no flag and no kind reads it
@@ -82,6 +84,7 @@ pub fn unused() -> Record
         sequence: 0,
         next_dbc: 0,
         mr: false,
+        limit: 0,
         format: Format {
             fmt: 0,
             dbs: 0,
@@ -99,13 +102,15 @@ pub fn unused() -> Record
     }
 }
 
-// A stream newly admitted: its id, nothing seen, zero in every other field and count.
-pub fn admitted(id: u64) -> Record
-    ensures { λ r. ⌜ r ≡ admitted id ⌝ }
+// A stream newly admitted: its id and its limit, nothing seen, zero in every other field and count. Any limit may be given: one above
+// 2,147,483,647, which admission to a table refuses, acts as that.
+pub fn admitted_within(id: u64, limit: u32) -> Record
+    ensures { λ r. ⌜ r ≡ admittedWithin id limit ⌝ }
 {
     let mut record = unused();
     record.in_use = true;
     record.id = id;
+    record.limit = limit;
     record
 }
 
@@ -203,6 +208,7 @@ fn update(last: Record, fields: Fields, payload: &[u8], raised: Flags, timing: T
         sequence: avtp.sequence,
         next_dbc: next_dbc(cip.dbc, frame::blocks(payload, cip.dbs)),
         mr: avtp.mr,
+        limit: last.limit,
         format: format_of(cip),
         counts: count_frame(last.counts, raised),
         tally: tally::count(last.tally, timing),
@@ -214,7 +220,7 @@ pub fn step(last: Record, fields: Fields, payload: &[u8], arrival_time: u64) -> 
     ensures { λ r. ⌜ r ≡ stepped last fields (now (payload .entry)) «arrival_time» ⌝ }
 {
     let flags = raise_flags(last, fields);
-    let timing = presentation::judge_time(arrival_time, fields, payload);
+    let timing = presentation::judge_time_within(arrival_time, fields, payload, last.limit);
     let after = update(last, fields, payload, flags, timing);
     Stepped {
         after,
@@ -237,7 +243,7 @@ pub fn payload_of(receipt: Receipt, frame: &[u8]) -> &[u8]
     }
 }
 
-// A record that is free or newly admitted holds zeros: what fifty zero bytes hold, and no count.
+// A record that is free or newly admitted holds zeros, but for the id and the limit: what fifty zero bytes hold, and no count.
 fn zero_records()
     ensures { λ _. ⌜ ZeroRecords ⌝ }
 {}

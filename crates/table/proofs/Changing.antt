@@ -6,6 +6,7 @@ use mathlib.Core.Bool.{Bool, true, false}
 use lib.Dec.{ltb}
 use lib.ListN.{length, length-set}
 use Rattle.refusal.specs.Refusals.{firstOf}
+use Rattle.presentation.specs.Presentation.{largestLimit}
 use Rattle.table.specs.declared.Found.{Found}
 use Rattle.table.specs.declared.Found.the-variants.{At, Nothing}
 use Rattle.table.specs.declared.Wanted.the-variants.{Holding, Unused}
@@ -13,8 +14,8 @@ use Rattle.table.specs.declared.Asked.{Asked}
 use Rattle.table.specs.declared.Asked.the-variants.{Admission, Removal}
 use Rattle.table.specs.declared.Target.{Target}
 use Rattle.table.specs.declared.Target.the-variants.{Place, Refuse}
-use Rattle.table.specs.Table.{Table, admit, remove, changeNumber}
-use Rattle.table.specs.Private.{find, targetOf, changeOf, changedAt, Fits, ruleOf}
+use Rattle.table.specs.Table.{Table, holds, any, admit, remove, changeNumber}
+use Rattle.table.specs.Private.{find, newTarget, targetOf, changeOf, changedAt, Fits, ruleOf}
 use Rattle.table.proofs.Searched.{found-at, found-none, found-within}
 
 pub changed-length : (x : Target) (t : Table) → length (changedAt x t) ≡ length t
@@ -31,20 +32,23 @@ module _ (t : Table) (id : ℕ) where
 
   long : (k : Asked) (held free : Found) → ltb 64 (length t) ≡ true → Decides k held free
   unfolding admit remove firstOf targetOf
-  long Admission held free e = rw e (refl, (refl, tt))
+  long (Admission limit) held free e = rw e (refl, (refl, tt))
   long Removal held free e = rw e (refl, (refl, tt))
+
+  -- a stream that is not held yet, by whether its limit is too large
+  new : (limit : ℕ) (free : Found) → any (holds id) t ≡ false → find t Unused ≡ free → ltb 64 (length t) ≡ false → (large : Bool) → ltb largestLimit limit ≡ large
+      → Decides (Admission limit) Nothing free
+  unfolding admit firstOf targetOf newTarget
+  new limit free absent f e true l = rw (e, absent, l) (refl, (refl, tt))
+  new limit (At i) absent f e false l =
+      let room = found-at t Unused f in
+      rw (e, absent, l, room .0, room .1) (refl, (refl, found-within t Unused f))
+  new limit Nothing absent f e false l = rw (e, absent, l, found-none t Unused f) (refl, (refl, tt))
 
   short : (k : Asked) (held free : Found) → find t (Holding id) ≡ held → find t Unused ≡ free → ltb 64 (length t) ≡ false → Decides k held free
   unfolding admit remove firstOf targetOf
-  short Admission (At j) free h f e = let there = found-at t (Holding id) h in rw (e, there .0) (refl, (refl, tt))
-  short Admission Nothing (At i) h f e =
-      let absent = found-none t (Holding id) h in
-      let room = found-at t Unused f in
-      rw (e, absent, room .0, room .1) (refl, (refl, found-within t Unused f))
-  short Admission Nothing Nothing h f e =
-      let absent = found-none t (Holding id) h in
-      let full = found-none t Unused f in
-      rw (e, absent, full) (refl, (refl, tt))
+  short (Admission limit) (At j) free h f e = let there = found-at t (Holding id) h in rw (e, there .0) (refl, (refl, tt))
+  short (Admission limit) Nothing free h f e = new limit free (found-none t (Holding id) h) f e (ltb largestLimit limit) refl
   short Removal (At i) free h f e = let there = found-at t (Holding id) h in rw (e, there .0, there .1) (refl, (refl, found-within t (Holding id) h))
   short Removal Nothing free h f e = let absent = found-none t (Holding id) h in rw (e, absent) (refl, (refl, tt))
 

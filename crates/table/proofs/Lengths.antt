@@ -5,7 +5,7 @@ use mathlib.Core.List.{List}
 use lib.ListN.{length, set, length-set}
 use Rattle.refusal.specs.Refusals.{ifAccepted, firstOf}
 use Rattle.stream.specs.declared.Record.{Record}
-use Rattle.stream.specs.Records.{unused, admitted}
+use Rattle.stream.specs.Records.{unused, admittedWithin}
 use Rattle.stream.specs.Answers.{after, idOf}
 use Rattle.table.specs.Table.{Table, place, holds, isUnused, at, admitChecks, removeChecks, admit, remove, numberWith, receive}
 
@@ -13,9 +13,9 @@ pub length-changed : (n : ℕ) (t : Table) (i : ℕ) (r : Record) → length (if
 length-changed zero t i r = length-set t i r
 length-changed (suc n) t i r = refl
 
-pub length-admit : (t : Table) (id : ℕ) → length (admit t id .1) ≡ length t
+pub length-admit : (limit : ℕ) (t : Table) (id : ℕ) → length (admit limit t id .1) ≡ length t
 unfolding admit
-length-admit t id = length-changed (firstOf (admitChecks t id)) t (place isUnused t) (admitted id)
+length-admit limit t id = length-changed (firstOf (admitChecks limit t id)) t (place isUnused t) (admittedWithin id limit)
 
 pub length-remove : (t : Table) (id : ℕ) → length (remove t id .1) ≡ length t
 unfolding remove

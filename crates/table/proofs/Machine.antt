@@ -94,7 +94,7 @@ machY c = EL.val Y.the-type Y′.the-laws c
 
 -- the bytes of a record in a table, which are also those in front of the receipt in what is served
 abbrev pub recordSize : ℕ
-recordSize = 120
+recordSize = 136
 
 pub receipt-field : fieldOf S′.mir 1 ≡ is (P′.mir, recordSize)
 receipt-field = refl

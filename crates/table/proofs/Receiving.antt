@@ -15,7 +15,7 @@ use Rattle.frame.specs.Layout.{fieldsOf}
 use Rattle.refusal.specs.Refusals.{numberOf, Check, _answers_, firstOf}
 use Rattle.frame.specs.Checks.{frameChecks, refusal}
 use Rattle.frame.specs.Reading.{ReadAnswer, readingBy, reading, readAnswer}
-use Rattle.refusal.proofs.First.{positive, orElse, then}
+use Rattle.refusal.proofs.First.{positive, orElse, both, then}
 use Rattle.stream.specs.declared.Record.{Record}
 use Rattle.frame.proofs.Groups.{frame-numbered}
 use Rattle.stream.specs.declared.Receipt.{Receipt}
@@ -45,6 +45,15 @@ unadmitted found = cond (not found) 15 0
 pub number-then : (t : Table) (frame : List ℕ) → numberWith t frame ≡ orElse (numberBefore (length t) frame) (unadmitted (any (holds (idOf frame)) t))
 unfolding numberWith firstOf
 number-then t frame = then (tooLong (length t) ∷ frameChecks frame) (not (any (holds (idOf frame)) t) answers 15 ∷ []) (frame-numbered frame)
+
+-- an accepted frame's stream is admitted
+pub number-any : (t : Table) (frame : List ℕ) → numberWith t frame ≡ 0 → any (holds (idOf frame)) t ≡ true
+number-any t frame e =
+    go (any (holds (idOf frame)) t) (both (numberBefore (length t) frame) (unadmitted (any (holds (idOf frame)) t)) (sym (number-then t frame) ∙ e) .1)
+  where
+    go : (b : Bool) → unadmitted b ≡ 0 → b ≡ true
+    go true e = refl
+    go false e = absurd (omega arith)
 
 past-20 : (b : Bool) (n : ℕ) → cond b 20 n ≡ 0 → n ≡ 0
 past-20 true n e = absurd (omega (arith, e))

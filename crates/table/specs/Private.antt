@@ -4,14 +4,15 @@ use mathlib.Core.Bool.{Bool, cond}
 use mathlib.Core.List.{List, _∷_}
 use lib.Dec.{ltb}
 use lib.ListN.{set}
-use Rattle.refusal.specs.declared.Refusal.the-variants.{TableTooLong, AlreadyAdmitted, TableFull, NothingToRemove}
+use Rattle.refusal.specs.declared.Refusal.the-variants.{TableTooLong, AlreadyAdmitted, TableFull, NothingToRemove, LimitTooLarge}
 use Rattle.refusal.specs.Refusals.{_answers_, firstOf}
 use Rattle.frame.specs.Checks.{frameChecks}
 use Rattle.frame.specs.declared.layout.Fields.{Fields}
 use Rattle.frame.specs.Reading.{ReadAnswer, readingBy, dataOf}
 use Rattle.stream.specs.declared.Record.{Record}
 use Rattle.stream.specs.declared.Receipt.the-variants.{Accepted}
-use Rattle.stream.specs.Records.{unused, admitted}
+use Rattle.presentation.specs.Presentation.{largestLimit}
+use Rattle.stream.specs.Records.{unused, admittedWithin}
 use Rattle.stream.specs.Step.{stepped}
 use Rattle.table.specs.declared.Served.{Served}
 use Rattle.table.specs.declared.Found.{Found}
@@ -43,11 +44,19 @@ find t w = cond (any (wants w) t) (At (place (wants w) t)) Nothing
 
 -- ---- Where a record is stored, and which, or why none is
 
--- admission takes the lowest unused place, unless the id is held already; removal that of the record that holds it
+-- the lowest unused place is taken, if there is one
+abbrev placeAt : ℕ → ℕ → Found → Target
+placeAt id limit (At i) = Place i (admittedWithin id limit)
+placeAt id limit Nothing = Refuse TableFull
+
+-- unless the limit is too large
+unfoldable pub newTarget : ℕ → ℕ → Found → Target
+newTarget id limit free = cond (ltb largestLimit limit) (Refuse LimitTooLarge) (placeAt id limit free)
+
+-- admission, unless the id is held already; removal takes the place of the record that holds it
 abbrev targetAt : Asked → ℕ → Found → Found → Target
-targetAt Admission id (At j) free = Refuse AlreadyAdmitted
-targetAt Admission id Nothing (At i) = Place i (admitted id)
-targetAt Admission id Nothing Nothing = Refuse TableFull
+targetAt (Admission limit) id (At j) free = Refuse AlreadyAdmitted
+targetAt (Admission limit) id Nothing free = newTarget id limit free
 targetAt Removal id (At i) free = Place i unused
 targetAt Removal id Nothing free = Refuse NothingToRemove
 
@@ -71,7 +80,7 @@ Fits (Refuse c) n = Unit {0}
 
 -- the rule of what is asked
 abbrev pub ruleOf : Asked → Table → ℕ → ℕ × Table
-ruleOf Admission = admit
+ruleOf (Admission limit) = admit limit
 ruleOf Removal = remove
 
 -- ---- The step of a frame that has been read, and its receipt

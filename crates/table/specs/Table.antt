@@ -1,4 +1,4 @@
--- Tables of stream records: admission, removal and receiving (document 01, Stream records and Numbers answered).
+-- Tables of stream records: admission, removal and receiving (document 01, Stream records and Numbers answered; request #107).
 use Prim.Native.Nat.{ℕ, suc}
 use mathlib.Core.Path.{_≡_}
 use mathlib.Core.Bool.{Bool, false, not, cond, _&&_, _||_}
@@ -8,7 +8,8 @@ use lib.ListN.{length, getD, set}
 use Rattle.refusal.specs.Refusals.{numberOf, ifAccepted, Check, _answers_, firstOf}
 use Rattle.frame.specs.Checks.{frameChecks}
 use Rattle.stream.specs.declared.Record.{Record}
-use Rattle.stream.specs.Records.{unused, admitted}
+use Rattle.presentation.specs.Presentation.{largestLimit}
+use Rattle.stream.specs.Records.{unused, admittedWithin}
 use Rattle.stream.specs.declared.Receipt.{Receipt}
 use Rattle.stream.specs.Answers.{Answer, refusedWith, answerOf, after, idOf, receiptAnswer}
 use Rattle.table.specs.declared.Change.{Change}
@@ -42,10 +43,12 @@ at t i = getD t i unused
 
 -- ---- Admission and removal
 
-abbrev pub admitChecks : Table → ℕ → List Check
-admitChecks t id =
+-- with a limit of its own: "24 limit too large, after 21 and before 22" (request #107)
+abbrev pub admitChecks : ℕ → Table → ℕ → List Check
+admitChecks limit t id =
     ltb 64 (length t) answers 20
     ∷ any (holds id) t answers 21
+    ∷ ltb largestLimit limit answers 24
     ∷ not (any isUnused t) answers 22
     ∷ []
 
@@ -56,10 +59,10 @@ removeChecks t id =
     ∷ []
 
 -- the number answered, and the table afterwards: the unused record with the lowest place is taken
-unfoldable pub admit : Table → ℕ → ℕ × Table
-admit t id =
-    let n = firstOf (admitChecks t id) in
-    (n, ifAccepted n (set t (place isUnused t) (admitted id)) t)
+unfoldable pub admit : ℕ → Table → ℕ → ℕ × Table
+admit limit t id =
+    let n = firstOf (admitChecks limit t id) in
+    (n, ifAccepted n (set t (place isUnused t) (admittedWithin id limit)) t)
 
 -- the record that holds the id is unused again
 unfoldable pub remove : Table → ℕ → ℕ × Table

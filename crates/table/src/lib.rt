@@ -14,7 +14,7 @@ ghost use Rattle.frame.specs.Reading.{readAnswer};
 ghost use Rattle.stream.specs.Records.{unused};
 ghost use Rattle.stream.specs.declared.Receipt.the-variants.{Refused};
 ghost use Rattle.table.specs.Table.{at, admit, remove, ChangedBy, Receives, ReceivesAlone};
-ghost use Rattle.table.specs.Private.{wants, find, readingFor, targetOf, changeOf, changedAt, Fits, ruleOf, served};
+ghost use Rattle.table.specs.Private.{wants, find, readingFor, newTarget, targetOf, changeOf, changedAt, Fits, ruleOf, served};
 
 // What a search looks for: the record in use that holds an id, or an unused one.
 pub(crate) enum Wanted {
@@ -29,7 +29,8 @@ pub(crate) enum Found {
 
 // What is asked of a table for an id.
 pub(crate) enum Asked {
-    Admission,
+    // with this limit
+    Admission(u32),
     Removal,
 }
 
@@ -194,8 +195,21 @@ pub fn receive(table: &mut [Record], frame: &[u8], arrival_time: u64) -> Receipt
     }
 }
 
-// Where a record is stored for an id, and which, or why none is: 20 before all else. Admission takes the lowest unused record, unless the id
-// is held already; removal makes the record that holds the id unused again.
+// A stream that is not held yet takes the lowest unused record, if there is one and the limit is not too large: 24 before 22.
+fn new_target(id: u64, limit: u32, free: Found) -> Target
+    ensures { λ r. ⌜ r ≡ newTarget id limit free ⌝ }
+{
+    if limit > presentation::LARGEST_LIMIT {
+        return Target::Refuse(Refusal::LimitTooLarge);
+    }
+    match free {
+        Found::At(i) => Target::Place(i, stream::admitted_within(id, limit)),
+        Found::Nothing => Target::Refuse(Refusal::TableFull),
+    }
+}
+
+// Where a record is stored for an id, and which, or why none is: 20 before all else. Admission takes an unused record, unless the id is held
+// already; removal makes the record that holds the id unused again.
 fn decide(asked: Asked, id: u64, n: usize, held: Found, free: Found) -> Target
     ensures { λ r. ⌜ r ≡ targetOf asked id n held free ⌝ }
 {
@@ -203,12 +217,9 @@ fn decide(asked: Asked, id: u64, n: usize, held: Found, free: Found) -> Target
         return Target::Refuse(Refusal::TableTooLong);
     }
     match asked {
-        Asked::Admission => match held {
+        Asked::Admission(limit) => match held {
             Found::At(_) => Target::Refuse(Refusal::AlreadyAdmitted),
-            Found::Nothing => match free {
-                Found::At(i) => Target::Place(i, stream::admitted(id)),
-                Found::Nothing => Target::Refuse(Refusal::TableFull),
-            },
+            Found::Nothing => new_target(id, limit, free),
         },
         Asked::Removal => match held {
             Found::At(i) => Target::Place(i, stream::unused()),
@@ -242,11 +253,11 @@ fn change_table(table: &mut [Record], id: u64, asked: Asked) -> Change
     store(table, target)
 }
 
-// The stream is admitted at the lowest unused place, with nothing seen.
-pub fn admit(table: &mut [Record], id: u64) -> Change
-    ensures { λ r. ⌜ ChangedBy admit (now (table .entry)) id r (now (table .exit)) ⌝ }
+// The stream is admitted at the lowest unused place, with this limit and with nothing seen.
+pub fn admit(table: &mut [Record], id: u64, limit: u32) -> Change
+    ensures { λ r. ⌜ ChangedBy (admit limit) (now (table .entry)) id r (now (table .exit)) ⌝ }
 {
-    change_table(table, id, Asked::Admission)
+    change_table(table, id, Asked::Admission(limit))
 }
 
 // The stream's record is unused again, with every field zero.
@@ -279,10 +290,10 @@ fn change_in(table: [Record; 64], id: u64, asked: Asked) -> Changed
     }
 }
 
-pub fn admit_in(table: [Record; 64], id: u64) -> Changed
-    ensures { λ r. ⌜ ChangedBy admit table id (r .change) (r .table) ⌝ }
+pub fn admit_in(table: [Record; 64], id: u64, limit: u32) -> Changed
+    ensures { λ r. ⌜ ChangedBy (admit limit) table id (r .change) (r .table) ⌝ }
 {
-    change_in(table, id, Asked::Admission)
+    change_in(table, id, Asked::Admission(limit))
 }
 
 pub fn remove_in(table: [Record; 64], id: u64) -> Changed

@@ -1,2 +1,1 @@
 pub mod TooLong
-pub mod ByValue

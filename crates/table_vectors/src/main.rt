@@ -1,6 +1,9 @@
-// Tables of stream records at their edges: a table of 65 records, which every call refuses with 20, a record lent alone, one id twice, and
-// the calls by value. Each call is made, and what it answers and leaves is printed.
+// Tables of stream records at their edges: a table of 65 records, which every call refuses with 20, a record lent alone, one id twice, the
+// calls by value, and the limit of each stream. Each call is made, and what it answers and leaves is printed.
 use libc::STDOUT_FILENO;
+use presentation::Kind;
+use presentation::LARGEST_LIMIT;
+use presentation::Timing;
 use refusal::Refusal;
 use stream::Receipt;
 use stream::Record;
@@ -11,7 +14,8 @@ use writer::given::CipFields;
 use writer::given::EthernetFields;
 use writer::given::Given;
 use writer::given::StreamFields;
-ghost use Rattle.table.specs.Table.{admit, remove, ChangedBy, Receives, ReceivesAlone};
+ghost use mathlib.Core.Path.{_≡_};
+ghost use Rattle.table.specs.Table.{admit, remove, changeNumber, ChangedBy, Receives, ReceivesAlone};
 
 // ---- Printing
 
@@ -28,9 +32,7 @@ fn show_refusal(r: Refusal) {
     number(b" number=", refusal::number(r) as u64);
 }
 
-fn show_change(name: &[u8], id: u64, change: Change) {
-    say(name);
-    number(b" ", id);
+fn show_change(change: Change) {
     match change {
         Change::Made => say(b" number=0"),
         Change::Refused(r) => show_refusal(r),
@@ -38,11 +40,44 @@ fn show_change(name: &[u8], id: u64, change: Change) {
     say(b"\n");
 }
 
-fn show_receipt(receipt: Receipt, frame: &[u8]) {
-    say(b"receive");
+fn show_admission(id: u64, limit: u32, change: Change) {
+    number(b"admit ", id);
+    number(b" limit=", limit as u64);
+    show_change(change);
+}
+
+fn show_removal(id: u64, change: Change) {
+    number(b"remove ", id);
+    show_change(change);
+}
+
+fn show_kind(kind: Kind) {
+    match kind {
+        Kind::None => say(b" kind=none"),
+        Kind::Cut => say(b" kind=cut"),
+        Kind::Outside => say(b" kind=outside"),
+        Kind::Late => say(b" kind=late"),
+        Kind::Ahead => say(b" kind=ahead"),
+        Kind::Unclear => say(b" kind=unclear"),
+        Kind::Far => say(b" kind=far"),
+    }
+}
+
+fn show_timing(timing: Timing) {
+    let kind = timing.kind;
+    show_kind(kind);
+    number(b" time=", timing.time);
+}
+
+fn show_receipt(receipt: Receipt, frame: &[u8], arrival_time: u64) {
+    number(b"receive L=", arrival_time);
     match receipt {
         Receipt::Refused(r) => show_refusal(r),
-        Receipt::Accepted(_) => say(b" number=0"),
+        Receipt::Accepted(judged) => {
+            say(b" number=0");
+            let timing = judged.timing;
+            show_timing(timing);
+        }
     }
     let payload = stream::payload_of(receipt, frame);
     number(b" payload=", payload.len() as u64);
@@ -55,6 +90,7 @@ fn show_record(place: u64, r: Record) {
     number(b" id=", r.id);
     number(b" sequence=", r.sequence as u64);
     number(b" next_dbc=", r.next_dbc as u64);
+    number(b" limit=", r.limit as u64);
     number(b" frames=", r.counts.frames as u64);
     say(b"\n");
 }
@@ -99,7 +135,7 @@ fn given(id: u64) -> Given {
     }
 }
 
-// A frame with eight blocks.
+// A frame with eight blocks and the stamp 3,000.
 fn frame_of(id: u64, sequence: u8, dbc: u8) -> [u8; 82] {
     let payload = [7u8; 32];
     let mut out = [0u8; 82];
@@ -116,9 +152,11 @@ fn frame_with_qpc_3(id: u64, sequence: u8, dbc: u8) -> [u8; 82] {
 
 // ---- A table of 65 records, lent
 
-struct Changed65 {
+// What admission answered, then what removal of the same id did, and the table after both.
+struct Changes65 {
     table: [Record; 65],
-    change: Change,
+    admission: Change,
+    removal: Change,
 }
 
 struct Received65 {
@@ -126,25 +164,17 @@ struct Received65 {
     receipt: Receipt,
 }
 
-fn admit_65(table: [Record; 65], id: u64) -> Changed65
-    ensures { λ r. ⌜ ChangedBy admit table id (r .change) (r .table) ⌝ }
+// An id is admitted, then removed.
+fn change_65(table: [Record; 65], id: u64, limit: u32) -> Changes65
+    ensures { λ r. ⌜ (changeNumber (r .admission) ≡ admit limit table id .0) × ChangedBy remove (admit limit table id .1) id (r .removal) (r .table) ⌝ }
 {
     let mut records = table;
-    let change = table::admit(&mut records, id);
-    Changed65 {
+    let admission = table::admit(&mut records, id, limit);
+    let removal = table::remove(&mut records, id);
+    Changes65 {
         table: records,
-        change,
-    }
-}
-
-fn remove_65(table: [Record; 65], id: u64) -> Changed65
-    ensures { λ r. ⌜ ChangedBy remove table id (r .change) (r .table) ⌝ }
-{
-    let mut records = table;
-    let change = table::remove(&mut records, id);
-    Changed65 {
-        table: records,
-        change,
+        admission,
+        removal,
     }
 }
 
@@ -167,46 +197,39 @@ fn show_65(records: [Record; 65]) {
 
 fn too_long() -> [Record; 65] {
     let mut records = [stream::unused(); 65];
-    records[0] = stream::admitted(1);
-    records[64] = stream::admitted(2);
+    records[0] = stream::admitted_within(1, LARGEST_LIMIT);
+    records[64] = stream::admitted_within(2, LARGEST_LIMIT);
     records
 }
 
-fn admit_too_long(records: [Record; 65], id: u64) -> [Record; 65] {
-    let changed = admit_65(records, id);
-    let change = changed.change;
-    show_change(b"admit", id, change);
-    let after = changed.table;
-    after
-}
-
-fn remove_too_long(records: [Record; 65], id: u64) -> [Record; 65] {
-    let changed = remove_65(records, id);
-    let change = changed.change;
-    show_change(b"remove", id, change);
-    let after = changed.table;
+fn change_too_long(records: [Record; 65], id: u64, limit: u32) -> [Record; 65] {
+    let changes = change_65(records, id, limit);
+    let admission = changes.admission;
+    let removal = changes.removal;
+    show_admission(id, limit, admission);
+    show_removal(id, removal);
+    let after = changes.table;
     after
 }
 
 fn receive_too_long(records: [Record; 65], frame: &[u8]) -> [Record; 65] {
     let received = receive_65(records, frame, 1000);
     let receipt = received.receipt;
-    show_receipt(receipt, frame);
+    show_receipt(receipt, frame, 1000);
     let after = received.table;
     after
 }
 
-// 20 before all else: before 21, 23, 1, 3 and 15.
+// 20 before all else: before 21, 24, 23, 1, 3 and 15.
 fn show_too_long() {
     say(b"# 65 records\n");
     let a = too_long();
     show_65(a);
-    let b = admit_too_long(a, 3);
-    let c = admit_too_long(b, 1);
-    let d = remove_too_long(c, 1);
-    let e = remove_too_long(d, 9);
-    show_65(e);
-    show_frames_too_long(e);
+    let b = change_too_long(a, 3, LARGEST_LIMIT);
+    let c = change_too_long(b, 1, LARGEST_LIMIT);
+    let d = change_too_long(c, 3, LARGEST_LIMIT + 1);
+    show_65(d);
+    show_frames_too_long(d);
 }
 
 fn show_frames_too_long(records: [Record; 65]) {
@@ -238,10 +261,10 @@ fn receive_alone(last: Record, frame: &[u8], arrival_time: u64) -> Alone
     }
 }
 
-fn receive_lent(last: Record, frame: &[u8]) -> Record {
-    let alone = receive_alone(last, frame, 1000);
+fn receive_lent(last: Record, frame: &[u8], arrival_time: u64) -> Record {
+    let alone = receive_alone(last, frame, arrival_time);
     let receipt = alone.receipt;
-    show_receipt(receipt, frame);
+    show_receipt(receipt, frame, arrival_time);
     let after = alone.after;
     show_record(0, after);
     after
@@ -249,23 +272,23 @@ fn receive_lent(last: Record, frame: &[u8]) -> Record {
 
 fn receive_sent(last: Record, id: u64, sequence: u8, dbc: u8) -> Record {
     let frame = frame_of(id, sequence, dbc);
-    receive_lent(last, &frame)
+    receive_lent(last, &frame, 1000)
 }
 
 fn receive_cut(last: Record, id: u64, sequence: u8, dbc: u8) -> Record {
     let frame = frame_of(id, sequence, dbc);
-    receive_lent(last, &frame[0..41])
+    receive_lent(last, &frame[0..41], 1000)
 }
 
 fn receive_with_qpc_3(last: Record, id: u64, sequence: u8, dbc: u8) -> Record {
     let frame = frame_with_qpc_3(id, sequence, dbc);
-    receive_lent(last, &frame)
+    receive_lent(last, &frame, 1000)
 }
 
 // Accepted, too short, accepted, of another stream, and repeated.
 fn show_alone() {
     say(b"# a record lent alone\n");
-    let a = receive_sent(stream::admitted(5), 5, 255, 250);
+    let a = receive_sent(stream::admitted_within(5, LARGEST_LIMIT), 5, 255, 250);
     let b = receive_cut(a, 5, 0, 2);
     let c = receive_sent(b, 5, 0, 2);
     let d = receive_sent(c, 6, 0, 2);
@@ -275,7 +298,7 @@ fn show_alone() {
 // QPC 3 in a frame of the stream, and in one of another, between two of its own.
 fn show_qpc_3() {
     say(b"# QPC 3, to a record lent alone\n");
-    let a = receive_sent(stream::admitted(5), 5, 255, 250);
+    let a = receive_sent(stream::admitted_within(5, LARGEST_LIMIT), 5, 255, 250);
     let b = receive_with_qpc_3(a, 5, 0, 2);
     let c = receive_with_qpc_3(b, 6, 0, 2);
     receive_sent(c, 5, 0, 2);
@@ -288,29 +311,62 @@ fn show_unused() {
     receive_sent(a, 0, 1, 2);
 }
 
+// A frame for a record with this limit. With L 2,147,486,649 its d is 2,147,483,647.
+fn receive_within(limit: u32, arrival_time: u64) {
+    let frame = frame_of(5, 1, 2);
+    receive_lent(stream::admitted_within(5, limit), &frame, arrival_time);
+}
+
+// A lent record may hold any number. One above the largest limit acts as none, and stays.
+fn show_limit_alone() {
+    say(b"# a record lent alone, with a limit\n");
+    receive_within(1999, 1000);
+    receive_within(2000, 1000);
+    receive_within(LARGEST_LIMIT - 1, 2_147_486_649);
+    receive_within(LARGEST_LIMIT, 2_147_486_649);
+    receive_within(LARGEST_LIMIT + 1, 2_147_486_649);
+    receive_within(u32::MAX, 2_147_486_649);
+    receive_within(LARGEST_LIMIT + 1, 1000);
+    receive_within(u32::MAX, 1000);
+}
+
 // ---- Tables of 64 by value
 
-fn receive(records: [Record; 64], id: u64, sequence: u8, dbc: u8) -> [Record; 64] {
+fn receive_at(
+    records: [Record; 64],
+    id: u64,
+    sequence: u8,
+    dbc: u8,
+    arrival_time: u64,
+) -> [Record; 64] {
     let frame = frame_of(id, sequence, dbc);
-    let received = table::receive_in(records, &frame, 1000);
+    let received = table::receive_in(records, &frame, arrival_time);
     let receipt = received.receipt;
-    show_receipt(receipt, &frame);
+    show_receipt(receipt, &frame, arrival_time);
     let after = received.table;
     after
 }
 
-fn admit(records: [Record; 64], id: u64) -> [Record; 64] {
-    let changed = table::admit_in(records, id);
+fn receive(records: [Record; 64], id: u64, sequence: u8, dbc: u8) -> [Record; 64] {
+    receive_at(records, id, sequence, dbc, 1000)
+}
+
+fn admit_within(records: [Record; 64], id: u64, limit: u32) -> [Record; 64] {
+    let changed = table::admit_in(records, id, limit);
     let change = changed.change;
-    show_change(b"admit", id, change);
+    show_admission(id, limit, change);
     let after = changed.table;
     after
+}
+
+fn admit(records: [Record; 64], id: u64) -> [Record; 64] {
+    admit_within(records, id, LARGEST_LIMIT)
 }
 
 fn remove(records: [Record; 64], id: u64) -> [Record; 64] {
     let changed = table::remove_in(records, id);
     let change = changed.change;
-    show_change(b"remove", id, change);
+    show_removal(id, change);
     let after = changed.table;
     after
 }
@@ -318,6 +374,12 @@ fn remove(records: [Record; 64], id: u64) -> [Record; 64] {
 fn show_0_and_1(records: [Record; 64]) {
     show_record(0, records[0]);
     show_record(1, records[1]);
+}
+
+fn show_0_to_3(records: [Record; 64]) {
+    show_0_and_1(records);
+    show_record(2, records[2]);
+    show_record(3, records[3]);
 }
 
 fn show_3_and_7(records: [Record; 64]) {
@@ -332,12 +394,12 @@ fn show_31_and_63(records: [Record; 64]) {
 
 fn one_id_twice() -> [Record; 64] {
     let mut records = table::unused_table();
-    records[3] = stream::admitted(5);
-    records[7] = stream::admitted(5);
+    records[3] = stream::admitted_within(5, 1999);
+    records[7] = stream::admitted_within(5, LARGEST_LIMIT);
     records
 }
 
-// The lower place counts, and then the higher one.
+// The lower place counts, its limit too, and then the higher one.
 fn show_twice() {
     say(b"# one id twice\n");
     let a = receive(one_id_twice(), 5, 10, 20);
@@ -363,9 +425,9 @@ fn show_ids() {
 
 // Every record is in use. Those with an id of their own are the ones that are looked at.
 fn full() -> [Record; 64] {
-    let mut records = [stream::admitted(100); 64];
-    records[31] = stream::admitted(131);
-    records[63] = stream::admitted(163);
+    let mut records = [stream::admitted_within(100, LARGEST_LIMIT); 64];
+    records[31] = stream::admitted_within(131, LARGEST_LIMIT);
+    records[63] = stream::admitted_within(163, LARGEST_LIMIT);
     records
 }
 
@@ -378,6 +440,57 @@ fn show_full() {
     show_31_and_63(c);
 }
 
+// ---- Limits
+
+// 24, and 21 before it. A refused admission leaves the table as it was.
+fn show_limits() {
+    say(b"# limits\n");
+    let a = admit_within(table::unused_table(), 1, 0);
+    let b = admit_within(a, 2, 1);
+    let c = admit_within(b, 3, LARGEST_LIMIT);
+    let d = admit_within(c, 4, LARGEST_LIMIT + 1);
+    let e = admit_within(d, 4, u32::MAX);
+    show_0_to_3(e);
+    let f = admit_within(e, 1, LARGEST_LIMIT + 1);
+    let g = admit_within(f, 2, 0);
+    show_0_to_3(g);
+}
+
+// 22, and 24 before it, and 21 before both.
+fn show_limits_full() {
+    say(b"# limits and a full table\n");
+    let a = admit_within(full(), 200, 0);
+    let b = admit_within(a, 200, LARGEST_LIMIT + 1);
+    let c = admit_within(b, 163, u32::MAX);
+    show_31_and_63(c);
+}
+
+// A limit is kept until removal, and the next admission gives another.
+fn show_limit_kept() {
+    say(b"# a limit until removal\n");
+    let a = receive(admit_within(table::unused_table(), 5, 1999), 5, 10, 20);
+    show_record(0, a[0]);
+    let b = remove(a, 5);
+    show_record(0, b[0]);
+    let c = receive(admit_within(b, 5, 2000), 5, 11, 28);
+    show_record(0, c[0]);
+}
+
+fn receive_both(records: [Record; 64], arrival_time: u64) -> [Record; 64] {
+    let a = receive_at(records, 1, 1, 1, arrival_time);
+    receive_at(a, 2, 1, 1, arrival_time)
+}
+
+// Each stream is held to its own limit, with d 2,001, 2,000, 1,999, 1, 0 and -1.
+fn show_two_limits() {
+    say(b"# limits 2000 and 0 side by side\n");
+    let a = admit_within(admit_within(table::unused_table(), 1, 2000), 2, 0);
+    let b = receive_both(receive_both(a, 999), 1000);
+    let c = receive_both(receive_both(b, 1001), 2999);
+    let d = receive_both(receive_both(c, 3000), 3001);
+    show_0_and_1(d);
+}
+
 fn main() {
     show_too_long();
     show_alone();
@@ -386,4 +499,9 @@ fn main() {
     show_twice();
     show_ids();
     show_full();
+    show_limit_alone();
+    show_limits();
+    show_limits_full();
+    show_limit_kept();
+    show_two_limits();
 }

@@ -1,10 +1,10 @@
--- What a stream's presentation times come to, one accepted frame after the other (requests #104 and #106).
+-- What a stream's presentation times come to, one accepted frame after the other (requests #104, #106 and #107).
 use Prim.Native.Nat.{ℕ, _+_, _-_, _*_, _%_, _^_, min}
 use mathlib.Core.Bool.{Bool, true, false, cond}
 use lib.Dec.{eqb, ltb}
 use lib.IntN.{ℤ, pos, negsuc, _-ℤ_}
 use Rattle.presentation.specs.declared.Kind.{Kind}
-use Rattle.presentation.specs.declared.Kind.the-variants.{None, Cut, Outside, Late, Ahead, Unclear}
+use Rattle.presentation.specs.declared.Kind.the-variants.{None, Cut, Outside, Late, Ahead, Unclear, Far}
 use Rattle.presentation.specs.declared.Timing.{Timing}
 use Rattle.tally.specs.declared.Kinds.{Kinds}
 use Rattle.tally.specs.declared.Sums.{Sums}
@@ -13,7 +13,7 @@ use Rattle.tally.specs.declared.Tally.{Tally}
 -- ---- Nothing counted
 
 abbrev noKinds : Kinds
-noKinds = record { none = 0; cut = 0; outside = 0; late = 0; ahead = 0; unclear = 0 }
+noKinds = record { none = 0; cut = 0; outside = 0; late = 0; ahead = 0; unclear = 0; far = 0 }
 
 abbrev noSums : Sums
 noSums = record { «smallest_below» = 0; «largest_above» = 0; «sum_above» = 0; summed = 0; unsummed = 0 }
@@ -38,6 +38,7 @@ kindNumber Outside = 2
 kindNumber Late = 3
 kindNumber Ahead = 4
 kindNumber Unclear = 5
+kindNumber Far = 6
 
 abbrev pub sameKind : Kind → Kind → Bool
 sameKind a b = eqb (kindNumber a) (kindNumber b)
@@ -52,6 +53,7 @@ kindsAfter kind k =
       late = raisedIf (sameKind kind Late) (k .late);
       ahead = raisedIf (sameKind kind Ahead) (k .ahead);
       unclear = raisedIf (sameKind kind Unclear) (k .unclear);
+      far = raisedIf (sameKind kind Far) (k .far);
     }
 
 -- ---- Sums, over those late or ahead
@@ -63,6 +65,7 @@ isTimed Outside = false
 isTimed Late = true
 isTimed Ahead = true
 isTimed Unclear = false
+isTimed Far = false
 
 -- how far an offset is above the lowest, −2,147,483,648; one past either end, which no frame has, counts as that end
 abbrev pub aboveLowest : ℤ → ℕ

@@ -6,7 +6,7 @@ ghost use mathlib.Core.Path.{_≡_};
 ghost use Rattle.tally.specs.Tally.{noTally, raisedIf, kindNumber, kindsAfter, isTimed, aboveLowest, greater, sumsAfter, counted};
 
 // How many frames had each kind. A count stays at its largest value once there. The two that most frames raise come first, the others side by
-// side behind them: the compiler moves these two at a time.
+// side behind them: the compiler moves these two at a time, and the last alone.
 pub struct Kinds {
     pub late: u64,
     pub ahead: u64,
@@ -14,6 +14,7 @@ pub struct Kinds {
     pub cut: u64,
     pub outside: u64,
     pub unclear: u64,
+    pub far: u64,
 }
 
 // Offsets lie between -2,147,483,648 and 2,147,483,647. Each is kept by how far it is from one of these ends, so that no number is below
@@ -51,6 +52,8 @@ const AHEAD: u8 = 4;
 
 const UNCLEAR: u8 = 5;
 
+const FAR: u8 = 6;
+
 // Nothing counted.
 pub fn none_yet() -> Tally
     ensures { λ r. ⌜ r ≡ noTally ⌝ }
@@ -63,6 +66,7 @@ pub fn none_yet() -> Tally
             late: 0,
             ahead: 0,
             unclear: 0,
+            far: 0,
         },
         sums: Sums {
             smallest_below: 0,
@@ -96,6 +100,7 @@ fn number_of(kind: Kind) -> u8
         Kind::Late => LATE,
         Kind::Ahead => AHEAD,
         Kind::Unclear => UNCLEAR,
+        Kind::Far => FAR,
     }
 }
 
@@ -117,6 +122,7 @@ fn count_kind(kinds: Kinds, kind: Kind) -> Kinds
     after.cut = raise(number == CUT, kinds.cut);
     after.outside = raise(number == OUTSIDE, kinds.outside);
     after.unclear = raise(number == UNCLEAR, kinds.unclear);
+    after.far = raise(number == FAR, kinds.far);
     after
 }
 
@@ -130,6 +136,7 @@ fn is_timed(kind: Kind) -> bool
         Kind::Late => true,
         Kind::Ahead => true,
         Kind::Unclear => false,
+        Kind::Far => false,
     }
 }
 

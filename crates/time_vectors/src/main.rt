@@ -1,5 +1,5 @@
 // Presentation times at zero, at both ends of the offset, at the wraps of L and T, at both ends of the arrival time, and about half a wrap
-// away: each is reckoned and printed. Then which stamp is read, and from which block.
+// away: each is reckoned and printed. Then about a stream's limit; and which stamp is read, and from which block.
 use frame::layout::Avtp;
 use frame::layout::Cip;
 use frame::layout::Ethernet;
@@ -36,6 +36,7 @@ fn kind(k: Kind) {
         Kind::Late => say(b" late"),
         Kind::Ahead => say(b" ahead"),
         Kind::Unclear => say(b" unclear"),
+        Kind::Far => say(b" far"),
     }
 }
 
@@ -43,6 +44,15 @@ fn show(arrival_time: u64, stamp: u32) {
     let timing = presentation::reckon(arrival_time, stamp);
     number(b"L=", arrival_time);
     number(b" T=", stamp as u64);
+    show_timing(timing);
+}
+
+// The same for a stream with a limit.
+fn show_within(arrival_time: u64, stamp: u32, limit: u32) {
+    let timing = presentation::reckon_within(arrival_time, stamp, limit);
+    number(b"L=", arrival_time);
+    number(b" T=", stamp as u64);
+    number(b" limit=", limit as u64);
     show_timing(timing);
 }
 
@@ -103,17 +113,39 @@ fn show_timing(timing: Timing) {
     say(b"\n");
 }
 
-// Which stamp is read.
-fn show_stamp(sph: bool, tv: bool, payload: &[u8]) {
-    let fields = Fields {
+fn fields_of(sph: bool, tv: bool) -> Fields {
+    Fields {
         header: header(tv),
         cip: cip(sph, 1, 0, 0),
-    };
-    let timing = presentation::judge_time(1000, fields, payload);
+    }
+}
+
+fn show_fields(sph: bool, tv: bool, payload: &[u8]) {
     number(b"SPH=", if sph { 1 } else { 0 });
     number(b" tv=", if tv { 1 } else { 0 });
     number(b" payload=", payload.len() as u64);
+}
+
+// Which stamp is read.
+fn show_stamp(sph: bool, tv: bool, payload: &[u8]) {
+    let timing = presentation::judge_time(1000, fields_of(sph, tv), payload);
+    show_fields(sph, tv, payload);
     show_timing(timing);
+}
+
+// Which stamp is held to the limit.
+fn show_stamp_within(sph: bool, tv: bool, payload: &[u8], limit: u32) {
+    let timing = presentation::judge_time_within(1000, fields_of(sph, tv), payload, limit);
+    show_fields(sph, tv, payload);
+    number(b" limit=", limit as u64);
+    show_timing(timing);
+}
+
+fn show_blocks(dbs: u8, fraction_number: u8, dbc: u8, quadlets: u8) {
+    number(b"DBS=", dbs as u64);
+    number(b" FN=", fraction_number as u64);
+    number(b" DBC=", dbc as u64);
+    number(b" quadlets=", quadlets as u64);
 }
 
 // Which block the stamp is read from, in a payload of the first `quadlets` of some.
@@ -127,10 +159,19 @@ fn show_start(all: &[u8], dbs: u8, fraction_number: u8, dbc: u8, quadlets: u8) {
         cip: cip(true, dbs, fraction_number, dbc),
     };
     let timing = presentation::judge_time(1000, fields, &all[0..end]);
-    number(b"DBS=", dbs as u64);
-    number(b" FN=", fraction_number as u64);
-    number(b" DBC=", dbc as u64);
-    number(b" quadlets=", quadlets as u64);
+    show_blocks(dbs, fraction_number, dbc, quadlets);
+    show_timing(timing);
+}
+
+// The fourth block opens a source packet, and its stamp is held to the limit.
+fn show_start_within(all: &[u8], limit: u32) {
+    let fields = Fields {
+        header: header(true),
+        cip: cip(true, 1, 2, 5),
+    };
+    let timing = presentation::judge_time_within(1000, fields, all, limit);
+    show_blocks(1, 2, 5, 9);
+    number(b" limit=", limit as u64);
     show_timing(timing);
 }
 
@@ -165,6 +206,44 @@ fn show_half_wraps() {
     show(u64::MAX, 2_147_483_648);
 }
 
+// A stamp ahead by more than the limit is far, and by as much it is ahead; limit 0 and d 0 too.
+fn show_limits() {
+    show_within(5, 5, 0);
+    show_within(5, 6, 0);
+    show_within(1000, 3000, 1999);
+    show_within(1000, 3000, 2000);
+    show_within(1000, 3000, 2001);
+    // T wraps.
+    show_within(4_294_967_290, 10, 15);
+    show_within(4_294_967_290, 10, 16);
+    // Nothing is above the largest limit, nor above a number that is no limit.
+    show_within(0, 2_147_483_647, 0);
+    show_within(0, 2_147_483_647, 2_147_483_646);
+    show_within(0, 2_147_483_647, 2_147_483_647);
+    show_within(0, 2_147_483_647, 2_147_483_648);
+    show_within(0, 2_147_483_647, u32::MAX);
+    show_within(1000, 3000, 2_147_483_648);
+    show_within(1000, 3000, u32::MAX);
+    // The largest time of all, and past it: outside and not far.
+    show_within(u64::MAX, 4_294_967_295, 0);
+    show_within(u64::MAX - 1, 4_294_967_295, 0);
+    show_within(u64::MAX - 2_147_483_647, 4_294_967_295, 2_147_483_646);
+    show_within(u64::MAX, 0, 0);
+    show_within(u64::MAX - 2_147_483_646, 0, 0);
+}
+
+// The other kinds keep their rules with limit 0: unclear, below 0, and late.
+fn show_other_kinds() {
+    show_within(0, 2_147_483_648, 0);
+    show_within(2_147_483_649, 1, 0);
+    show_within(u64::MAX, 2_147_483_647, 0);
+    show_within(10, 4_294_967_290, 0);
+    show_within(0, 2_147_483_649, 0);
+    show_within(4_294_967_306, 4_294_967_290, 0);
+    show_within(6, 5, 0);
+    show_within(2_147_483_647, 0, 0);
+}
+
 fn show_stamps() {
     show_stamp(false, false, b"");
     show_stamp(false, true, b"");
@@ -172,6 +251,20 @@ fn show_stamps() {
     show_stamp(true, false, b"\x00\x00\x0b");
     show_stamp(true, false, b"\x00\x00\x0b\xb8");
     show_stamp(true, true, b"\x00\x00\x03\x00\xff\xff\xff\xff");
+}
+
+// The AVTP timestamp is 500 ahead; where SPH is 1 it is not held to the limit.
+fn show_stamps_within() {
+    show_stamp_within(false, false, b"", 0);
+    show_stamp_within(false, true, b"", 499);
+    show_stamp_within(false, true, b"", 500);
+    show_stamp_within(true, true, b"", 0);
+    show_stamp_within(true, false, b"\x00\x00\x0b", 0);
+    show_stamp_within(true, false, b"\x00\x00\x0b\xb8", 1999);
+    show_stamp_within(true, false, b"\x00\x00\x0b\xb8", 2000);
+    show_stamp_within(true, true, b"\x00\x00\x0b\xb8", 500);
+    show_stamp_within(true, true, b"\x00\x00\x03\xe8", 0);
+    show_stamp_within(true, true, b"\x00\x00\x03\x00", 0);
 }
 
 fn show_starts(all: &[u8]) {
@@ -200,13 +293,18 @@ fn show_starts(all: &[u8]) {
     show_start(all, 1, 8, 250, 9);
     show_start(all, 1, 255, 0, 9);
     show_start(all, 1, 255, 64, 9);
+    show_start_within(all, 2);
+    show_start_within(all, 3);
 }
 
 fn main() {
     show_marked();
     show_ends();
     show_half_wraps();
+    show_limits();
+    show_other_kinds();
     show_stamps();
+    show_stamps_within();
     // Each quadlet is L and its own number, so that the offset shown is the number of the quadlet that was read.
     show_starts(
         b"\x00\x00\x03\xe8\x00\x00\x03\xe9\x00\x00\x03\xea\x00\x00\x03\xeb\x00\x00\x03\xec\x00\x00\x03\xed\x00\x00\x03\xee\x00\x00\x03\xef\x00\x00\x03\xf0",

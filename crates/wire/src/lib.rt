@@ -76,7 +76,7 @@ pub fn le16(s: &[u8], at: usize) -> u16
     ((s[at + 1] as u16) << 8) | (s[at] as u16)
 }
 
-fn le32(s: &[u8], at: usize) -> u32
+pub fn le32(s: &[u8], at: usize) -> u32
     ensures { λ r. ⌜ r ≡ littleEndianOr0 at 4 (now (s .entry)) ⌝ }
 {
     if !holds(s.len(), at, 4) {

@@ -4,15 +4,15 @@ use Rattle.refusal.specs.Refusals.{firstOf}
 use Rattle.frame.specs.Checks.{misaddressed, blockBytes, lengthChecks, ethernetChecks, avtpChecks, addressChecks, streamChecks, blockChecks, headerChecks, readChecks, frameChecks, refusal}
 use Rattle.frame.specs.Reading.{payloadOf, blocksOf}
 use Rattle.presentation.specs.Offset.{offset}
-use Rattle.presentation.specs.Presentation.{timed, timing}
-use Rattle.stream.specs.Records.{admitted, formatOf, formatChange, flagsOf, bump, countsAfter, recordAfter}
+use Rattle.presentation.specs.Presentation.{timed, timingWithin}
+use Rattle.stream.specs.Records.{admittedWithin, formatOf, formatChange, flagsOf, bump, countsAfter, recordAfter}
 use Rattle.stream.specs.Step.{stepped}
 use Rattle.stream.specs.Answers.{stepOf, answerOf, after}
 use Rattle.stream.proofs.marked_examples.Statement.{statement}
 use Rattle.stream.proofs.marked_examples.Tie as tie
 
 returns : tie.Need-returns
-unfolding fieldsOf headerOf ethernetOf avtpOf streamOf cipOf firstOf misaddressed blockBytes lengthChecks ethernetChecks avtpChecks addressChecks streamChecks blockChecks headerChecks readChecks frameChecks refusal payloadOf blocksOf offset timed timing admitted formatOf formatChange flagsOf bump countsAfter recordAfter stepped stepOf answerOf after
+unfolding fieldsOf headerOf ethernetOf avtpOf streamOf cipOf firstOf misaddressed blockBytes lengthChecks ethernetChecks avtpChecks addressChecks streamChecks blockChecks headerChecks readChecks frameChecks refusal payloadOf blocksOf offset timed timingWithin admittedWithin formatOf formatChange flagsOf bump countsAfter recordAfter stepped stepOf answerOf after
 returns c = ((refl, refl), ((refl, refl), ((refl, refl), ((refl, refl), ((refl, refl), (((refl, refl), refl), (((refl, refl), refl), (((refl, (refl, (refl, tt))), refl), (refl, (refl, (refl, (refl, tt))))))))))))
 
 pub marked-examples-spec : {M : Type 1} → statement M

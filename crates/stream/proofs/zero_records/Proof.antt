@@ -1,13 +1,13 @@
 use mathlib.Core.Path.{refl}
 use Rattle.frame.specs.Layout.{avtpOf, headerOf, cipOf, fieldsOf}
 use Rattle.tally.specs.Tally.{noTally}
-use Rattle.stream.specs.Records.{unused, admitted}
+use Rattle.stream.specs.Records.{unused, admittedWithin}
 use Rattle.stream.proofs.zero_records.Statement.{statement}
 use Rattle.stream.proofs.zero_records.Tie as tie
 
 returns : tie.Need-returns
-unfolding fieldsOf headerOf cipOf avtpOf noTally unused admitted
-returns c = (refl, λ id. refl)
+unfolding fieldsOf headerOf cipOf avtpOf noTally unused admittedWithin
+returns c = (refl, λ id limit. refl)
 
 pub zero-records-spec : {M : Type 1} → statement M
 zero-records-spec = tie.close (tie.spec returns)

@@ -10,17 +10,17 @@ returns c = rw (← c .before .is-too-long .ensures, c .if1 .taken)
 returns-2 : tie.Need-returns-2
 unfolding targetOf
 returns-2 c =
-    let asked = c .before .before in
+    let asked = c .before .before .before in
     let long = asked .before .before in
-    rw (← long .before .is-too-long .ensures, long .if1 .left, asked .enum-told .given .1, c .enum-told2 .given .1)
+    rw (← long .before .is-too-long .ensures, long .if1 .left, asked .asked .given .1, c .enum-told .given .1)
 
 returns-3 : tie.Need-returns-3
 unfolding targetOf
 returns-3 c =
-    let held = c .before .before .before .before in
-    let asked = held .before .before in
+    let held = c .before in
+    let asked = held .before .before .before in
     let long = asked .before .before in
-    rw (← long .before .is-too-long .ensures, long .if1 .left, asked .enum-told .given .1, held .enum-told3 .given .1, c .before .before .free .given .1, c .admitted .ensures)
+    rw (← long .before .is-too-long .ensures, long .if1 .left, asked .asked .given .1, held .enum-told2 .given .1, c .new-target .ensures)
 
 returns-4 : tie.Need-returns-4
 unfolding targetOf
@@ -28,24 +28,16 @@ returns-4 c =
     let held = c .before .before in
     let asked = held .before .before in
     let long = asked .before .before in
-    rw (← long .before .is-too-long .ensures, long .if1 .left, asked .enum-told .given .1, held .enum-told3 .given .1, c .enum-told4 .given .1)
+    rw (← long .before .is-too-long .ensures, long .if1 .left, asked .enum-told3 .given .1, held .held .given .1, c .unused .ensures)
 
 returns-5 : tie.Need-returns-5
 unfolding targetOf
 returns-5 c =
-    let asked = c .before .before .before .before in
-    let long = asked .before .before in
-    rw (← long .before .is-too-long .ensures, long .if1 .left, asked .enum-told5 .given .1, c .before .before .held .given .1, c .unused .ensures)
-
-returns-6 : tie.Need-returns-6
-unfolding targetOf
-returns-6 c =
     let asked = c .before .before in
     let long = asked .before .before in
-    rw (← long .before .is-too-long .ensures, long .if1 .left, asked .enum-told5 .given .1, c .enum-told6 .given .1)
+    rw (← long .before .is-too-long .ensures, long .if1 .left, asked .enum-told3 .given .1, c .enum-told4 .given .1)
 
 pub decide-spec : {M : Type 1} → statement M
 decide-spec =
     tie.close
-    (tie.spec (λ c κs. search needs) returns (λ c. search needs) (λ c. search needs) (λ c. search needs) (λ c. search needs) (λ c κs. search needs) (λ c. search needs) (λ c. search needs) (λ c. search needs) (λ c κs. search needs) (λ c. search needs)
-    returns-2 returns-3 returns-4 returns-5 returns-6)
+    (tie.spec (λ c κs. search needs) returns (λ c. search needs) (λ c. search needs) (λ c. search needs) (λ c κs. search needs) (λ c. search needs) (λ c. search needs) (λ c κs. search needs) (λ c. search needs) returns-2 returns-3 returns-4 returns-5)

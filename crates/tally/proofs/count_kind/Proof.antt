@@ -17,9 +17,9 @@ returns-2 c = rw (c .raise2 .ensures, sym (c .before .before .before .number-of 
 returns-3 : tie.Need-returns-3
 unfolding kindsAfter
 returns-3 c =
-    let untimed = c .before .before .before .before in
+    let untimed = c .before .before .before .before .before in
     let n = untimed .before .before .number-of .result in
-    rw (c .raise6 .ensures, c .before .raise5 .ensures, c .before .before .raise4 .ensures, c .before .before .before .raise3 .ensures, ← untimed .before .before .number-of .ensures, ne-eqb n 3 (untimed .before .if1 .left), ne-eqb n 4 (untimed .if2 .left))
+    rw (c .raise7 .ensures, c .before .raise6 .ensures, c .before .before .raise5 .ensures, c .before .before .before .raise4 .ensures, c .before .before .before .before .raise3 .ensures, ← untimed .before .before .number-of .ensures, ne-eqb n 3 (untimed .before .if1 .left), ne-eqb n 4 (untimed .if2 .left))
 
 pub count-kind-spec : {M : Type 1} → statement M
 count-kind-spec =
@@ -30,6 +30,7 @@ count-kind-spec =
     returns
     (λ c κs. search needs)
     returns-2
+    (λ c κs. search needs)
     (λ c κs. search needs)
     (λ c κs. search needs)
     (λ c κs. search needs)

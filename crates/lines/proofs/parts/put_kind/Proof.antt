@@ -22,10 +22,16 @@ returns-5 c = let text = c .before .before in rw (text .before .before .before .
 returns-6 : tie.Need-returns-6
 returns-6 c = let text = c .before .before in rw (text .before .before .before .enum-told6 .given .1) (alone (text .put6 .ensures))
 
+returns-7 : tie.Need-returns-7
+returns-7 c = let text = c .before .before in rw (text .before .before .before .enum-told7 .given .1) (alone (text .put7 .ensures))
+
 pub put-kind-spec : {M : Type 1} → statement M
 put-kind-spec =
     tie.close
     (tie.spec
+    (λ c. search needs)
+    (λ c. refl)
+    (λ c κs. tt)
     (λ c. search needs)
     (λ c. refl)
     (λ c κs. tt)
@@ -55,4 +61,6 @@ put-kind-spec =
     (λ c. returns-5 c .kept)
     returns-5
     (λ c. returns-6 c .kept)
-    returns-6)
+    returns-6
+    (λ c. returns-7 c .kept)
+    returns-7)
