@@ -25,8 +25,8 @@ Unbroken (x ∷ xs) = ((x .number ≡ 0) × (x .flags .sequence ≡ false) × (x
 abbrev pub frames : List Arrival → List (List ℕ)
 frames l = map (λ (a : Arrival). a .frame) l
 
--- Stream k is admitted to a table, with any limit. Then one sender's successive frames, all written with that id and none missing, are received, from
--- any one of them on, each with any padding and at any time.
+-- Stream k is admitted to a table, with any limit. Then one sender's successive frames, all written with that id and none missing, are
+-- received, from any one of them on, each with any padding and at any time.
 abbrev pub Listener : Type 0
 Listener = (t : Table) (k limit : ℕ) → (admit limit t k) .0 ≡ 0
     → (s : Sender) (calls : List Call) → SenderTyped s → CallsTyped calls → OneId k calls
