@@ -3,13 +3,14 @@
 //! `second_cases FILE..` goes through each capture named as `second_list` does. For
 //! each record it writes a line for each case that the record is, such as
 //! `sph fn=2 start last` (`starts.rs` says which there are), `qpc=3 alone` (`qpc.rs`
-//! does), `sph=0 half a wrap, L + d below 0` (`half_wrap.rs` does) or
-//! `limit=0 admitted` (`limits.rs` does). Neither a listing nor a report shows any of this, and the
-//! comparisons have to know that each came up.
+//! does), `sph=0 half a wrap, L + d below 0` (`half_wrap.rs` does), `limit=0 admitted`
+//! (`limits.rs` does) or `tag=0 padding` (`tags.rs` does, and says some of whole captures
+//! too). Neither a listing nor a report shows any of this, and the comparisons have to know
+//! that each came up.
 //!
 //! This file is a root beside `list.rs`, over rooms that stand there too; from the
 //! bottom: wire, refusal, cip, frame, presentation, stream, table, capture, outcome,
-//! reading, starts, qpc, half_wrap, limits.
+//! reading, starts, qpc, half_wrap, limits, tag_rules, tags.
 //!
 //! Build: `build.sh OUTDIR`.
 
@@ -19,7 +20,6 @@ mod frame;
 mod half_wrap;
 mod limits;
 mod outcome;
-#[allow(dead_code)] // no time's kind is printed
 mod presentation;
 mod qpc;
 mod reading;
@@ -29,6 +29,8 @@ mod samples;
 mod starts;
 mod stream;
 mod table;
+mod tag_rules;
+mod tags;
 mod wire;
 
 use half_wrap::half_wrap_cases;
@@ -41,12 +43,19 @@ use std::fs::File;
 use std::io::{self, BufWriter, Read, Write};
 use std::process::ExitCode;
 use table::StreamTable;
+use tags::{tag_cases, Tags};
+
+/// Writes a line for each case.
+fn write_lines(out: &mut impl Write, cases: &[String]) -> io::Result<()> {
+    cases.iter().try_for_each(|case| writeln!(out, "{case}"))
+}
 
 /// Writes the lines of one capture.
 fn write_cases(input: &mut impl Read, out: &mut impl Write, buffer: &mut [u8]) -> io::Result<()> {
     let mut table = StreamTable::new();
     let mut heedless = StreamTable::new();
     let mut limits = Limits::new();
+    let mut tags = Tags::new();
     let done = read_records(input, buffer, |record| {
         let outcome = carry_out(&mut table, record);
         let cases = [
@@ -54,11 +63,12 @@ fn write_cases(input: &mut impl Read, out: &mut impl Write, buffer: &mut [u8]) -
             qpc_cases(&mut heedless, record, &outcome),
             half_wrap_cases(record, &outcome),
             limit_cases(&mut limits, record, &outcome),
+            tag_cases(&mut tags, record, &outcome),
         ];
-        cases.concat().iter().try_for_each(|case| writeln!(out, "{case}"))
+        write_lines(out, &cases.concat())
     });
     match done {
-        Ok(_) => Ok(()),
+        Ok(_) => write_lines(out, &tags.end_cases()),
         Err(Failure::Read(error) | Failure::Write(error)) => Err(error),
     }
 }
@@ -88,7 +98,7 @@ mod tests {
     use super::*;
     use crate::samples::{
         admit_record, frame_record, limited_record, of_length, record, remove_record, sound,
-        stamped, with,
+        stamped, tagged_0, with,
     };
 
     /// The lines of a capture of these records.
@@ -98,11 +108,18 @@ mod tests {
         String::from_utf8(out).unwrap().lines().map(String::from).collect()
     }
 
-    /// Those that aren't about limits, on one line.
+    /// Those that are about neither limits nor tags, on one line.
     fn said(records: &[Vec<u8>]) -> String {
         let mut lines = lines(records);
-        lines.retain(|line| !line.starts_with("limit"));
+        lines.retain(|line| !line.starts_with("limit") && !line.starts_with("tag"));
         lines.join(", ")
+    }
+
+    /// Those that are about `what`.
+    fn said_about(records: &[Vec<u8>], what: &str) -> Vec<String> {
+        let mut lines = lines(records);
+        lines.retain(|line| line.starts_with(what));
+        lines
     }
 
     #[test]
@@ -130,13 +147,16 @@ mod tests {
             (with_qpc(7), "qpc=7 alone"),
             ([with_qpc(3), vec![0; 1500]].concat(), "qpc with 2"),
             (with(with_qpc(3), 12, 0), "qpc with 3"),
-            (with(with_qpc(3), 40, 0), "qpc with 12"),
+            (with(with_qpc(3), 40, 0x80), "qpc with 12"),
             (of_length(with_qpc(3), 7), "qpc with 13"),
             (with(with_qpc(3), 43, 3), "qpc with 14"),
             (with(with_qpc(3), 29, 2), "qpc with 15"),
             // The bits around QPC, and a frame that ends before it.
             (with(with_qpc(0), 44, 0xC3), ""),
             (of_length(with_qpc(3), 2)[..44].to_vec(), ""),
+            // Tag 0 has none, whatever else is wrong.
+            (with(with_qpc(3), 40, 0), ""),
+            (with(with(with_qpc(3), 40, 0), 12, 0), ""),
         ] {
             assert_eq!(said(&[admit_record(1), frame_record(0, &frame)]), case);
         }
@@ -184,7 +204,29 @@ mod tests {
             "limit told from its bytes in the other order",
             "limit told from the largest after an accepted frame",
         ];
-        assert_eq!(lines(&capture), expected);
+        assert_eq!(said_about(&capture, "limit"), expected);
+    }
+
+    #[test]
+    fn tags_of_every_record_and_of_the_end() {
+        let capture = [
+            frame_record(0, &tagged_0(1, &[])),
+            admit_record(1),
+            frame_record(0, &sound(1, &[])),
+            frame_record(0, &with(sound(1, &[]), 20, 1)),
+        ];
+        let expected = [
+            "tag told from 12 for tag 0",
+            "tag told from 13 for tag 0",
+            "tag told from 13 for tag 0 without data",
+            "tag=0 refused 15, for tag 1 a 13",
+            "tag told from format flag of tag 1 first",
+            "tag=1 first",
+        ];
+        assert_eq!(said_about(&capture, "tag"), expected);
+        let alone =
+            ["tag told from format flag of tag 1 first", "tag=1 first", "tag=1 in all frames"];
+        assert_eq!(said_about(&capture[1..], "tag"), alone);
     }
 
     #[test]

@@ -3,9 +3,10 @@
 /// Length of the CIP header, which stream_data_length counts in.
 pub const CIP_HEADER: usize = 8;
 
-/// The CIP header, without its indicators and reserved bits.
+/// The CIP header, without its indicators and reserved bits; by default, with zero in
+/// every field.
 #[allow(dead_code)] // a listing prints no field of the header itself
-#[derive(Clone, Copy, Debug, PartialEq, Eq)]
+#[derive(Clone, Copy, Debug, Default, PartialEq, Eq)]
 pub struct Cip {
     pub sid: u8,
     pub dbs: u8,
@@ -83,6 +84,7 @@ mod tests {
     fn each_field_to_its_edges() {
         let zero = Cip::parse(&[0xC0, 0, 3, 0, 0xC0, 0, 0, 0]);
         assert_eq!(zero, Cip::parse(&[0; CIP_HEADER]));
+        assert_eq!(zero, Cip::default());
         assert_eq!((zero.block_size(), zero.format()), (1024, Format::default()));
         let full = Cip::parse(&[0xFF; CIP_HEADER]);
         assert_eq!((full.sid, full.dbs, full.fraction, full.qpc), (63, 255, 3, 7));

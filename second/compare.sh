@@ -8,8 +8,8 @@
 # listings must agree byte for byte; some captures also go to the first program
 # through a pipe in small pieces. Then it is shown how often each thing that a
 # listing can say came up, and each case of a rule that it doesn't show (starts.rs,
-# qpc.rs, half_wrap.rs and limits.rs say which there are), and each that must come up has
-# to. A capture that differs is named by its number; it is made again by
+# qpc.rs, half_wrap.rs, limits.rs and tags.rs say which there are), and each that must come
+# up has to. A capture that differs is named by its number; it is made again by
 # `generate DIR SEED COUNT`.
 set -euo pipefail
 
@@ -62,8 +62,10 @@ awk "$counting"'
         for (i = 1; i <= 16; i++) known("refused " i)
         split("21 22 23 24 41 42 43", more)
         for (i = 1; i <= 7; i++) known("refused " more[i])
-        split("seq=ok seq=break dbc=ok dbc=break fmt=ok fmt=change mr=ok mr=change", flags)
-        for (i = 1; i <= 8; i++) known(flags[i])
+        each_known("seq=", "ok;break")
+        each_known("dbc=", "ok;break;none")
+        each_known("fmt=", "ok;change")
+        each_known("mr=", "ok;change")
         split("none outside late ahead unclear far", kinds)
         for (i = 1; i <= 6; i++) known("time=" kinds[i])
         known("time=outside below 0")
@@ -76,6 +78,7 @@ awk "$counting"'
         for (i = 1; i <= 6; i++) known("offset=" offsets[i])
         half_wraps_known()
         limits_known()
+        tags_known()
         known("admitted")
         known("removed")
         known("end records=0")
@@ -105,7 +108,7 @@ awk "$counting"'
     function at_an_edge() {
         return ($7 " " $8) in count
     }
-    /^(sph|qpc|limit)/ { came($0); next }
+    /^(sph|qpc|limit|tag)/ { came($0); next }
     $2 == "refused" && NF == 3 { came("refused " $3); next }
     $2 == "admitted" && NF == 2 { came($2); next }
     $2 == "removed" && NF == 2 { came($2); next }

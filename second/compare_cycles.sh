@@ -115,10 +115,28 @@ second_answers | awk -v fewest="$fewest" -v total="$work/total" "$counting"'
         known("frame refused 62")
         split("none late ahead", kinds)
         for (i = 1; i <= 3; i++) known("frame " kinds[i])
+        each_known("frame none, ", "under 50 bytes;with a QPC;with a SYT;with a SYT over 3071")
         split("-24576 -1 0 1 24575", offsets)
         for (i = 1; i <= 5; i++) known("offset=" offsets[i])
         known("no question")
         answered = 0
+    }
+    function hex(digits,   number, i) {
+        number = 0
+        for (i = 1; i <= length(digits); i++)
+            number = 16 * number + index("0123456789abcdef", substr(digits, i, 1)) - 1
+        return number
+    }
+    # What a frame that is none has that tells that it has tag 0 (request #108): with tag 1
+    # it would be refused or judged.
+    function tag_0(   cip, third, syt) {
+        if ($2 ~ /=4/) return ", under 50 bytes"
+        cip = substr($3, 5)
+        third = hex(substr(cip, 5, 2))
+        syt = substr(cip, 13)
+        if (int(third / 8) % 8 > 0) return ", with a QPC"
+        if (int(third / 4) % 2 == 1 || hex(substr(cip, 1, 2)) % 64 == 63 || syt == "ffff") return ""
+        return ", with a SYT" (hex(substr(syt, 2)) > 3071 ? " over 3071" : "")
     }
     $0 == "no question" { came($0); next }
     { answered++ }
@@ -129,7 +147,7 @@ second_answers | awk -v fewest="$fewest" -v total="$work/total" "$counting"'
         next
     }
     /^L=/ && NF == 5 && $4 == "refused" { came("frame refused " $5); next }
-    /^L=/ && NF == 5 && $4 == "none" && $5 == "offset=0" { came("frame none"); next }
+    /^L=/ && NF == 5 && $4 == "none" && $5 == "offset=0" { came("frame none" tag_0()); next }
     /^L=/ && NF == 5 && $4 == ($5 ~ /-/ ? "late" : "ahead") {
         came("frame " $4)
         if ($5 in count) came($5)

@@ -10,9 +10,9 @@
 # reported, of about 200 million bytes, in which a stream has more ahead or late
 # frames than are summed. The first program has to say what is wrong where it is given
 # no capture or two. Then it is shown how often each thing that a report can say came
-# up, and each case of half a wrap and of transit limits, which it doesn't show
-# (half_wrap.rs and limits.rs say which there are), and each that must come up has to. A
-# capture that differs is named by its number; it is made again by
+# up, and each case of half a wrap, of transit limits and of tags, which it doesn't show
+# (half_wrap.rs, limits.rs and tags.rs say which there are), and each that must come up has
+# to. A capture that differs is named by its number; it is made again by
 # `generate DIR SEED COUNT`, or `generate --million FILE`.
 set -euo pipefail
 
@@ -81,7 +81,7 @@ agrees - <"$name" || differs "$name" "on standard input, as -"
 # --- What came up -----------------------------------------------------------
 
 # Cases are looked for in the captures of the seed only.
-"$work/second_cases" [0-9]*.cap | sed -nE '/^(sph=|limit)/p' >"$work/cases"
+"$work/second_cases" [0-9]*.cap | sed -nE '/^(sph=|limit|tag)/p' >"$work/cases"
 covered=true
 awk -v million="$million" "$counting"'
     BEGIN {
@@ -130,6 +130,7 @@ awk -v million="$million" "$counting"'
         }
         half_wraps_known()
         limits_known()
+        tags_known()
         # A frame whose stamp would be cut is refused 14.
         forbidden("cut above 0")
         # Half a wrap is unclear, and not summed (request #106).
@@ -198,7 +199,7 @@ awk -v million="$million" "$counting"'
         streams = disordered = 0
         next
     }
-    /^(sph=|limit)/ { came($0); next }
+    /^(sph=|limit|tag)/ { came($0); next }
     !sound() { came("any other line"); next }
     {
         if (streams++ && below($1, last)) disordered = 1

@@ -31,8 +31,8 @@ prepare() {
 first_out=$work/first.out
 second_out=$work/second.out
 # Every one of this many captures goes through a pipe too. It shares no factor with
-# the 19 of kinds.rs, so that captures of each kind do.
-piped_each=18
+# the 22 of kinds.rs, so that captures of each kind do.
+piped_each=17
 # The captures for which they print something different, by name.
 declare -A differing=()
 
@@ -99,9 +99,10 @@ compare_piped() {
 
 # Functions for awk that count what came up. `known` names a thing that has to come
 # up, `each_known` one for each of the parts between semicolons, `half_wraps_known` all
-# cases of half_wrap.rs, `limits_known` all of limits.rs, `forbidden` a thing that may
-# not, and `came` says that one did: any other line, where it is neither. `shown` shows
-# how often each came up, and answers whether that is as it must be.
+# cases of half_wrap.rs, `limits_known` all of limits.rs, `tags_known` all of tags.rs,
+# `forbidden` a thing that may not, and `came` says that one did: any other line, where it
+# is neither. `shown` shows how often each came up, and answers whether that is as it must
+# be.
 counting='
     function known(name) {
         order[++names] = name
@@ -166,6 +167,55 @@ counting='
             " after an accepted frame")
         each_known("limit told from ", "0;the largest;the offset before,",
             " after a refused frame")
+    }
+    function tags_known(   i, told) {
+        each_known("tag=0 length ", "0;1;2;3;4;8;1024;1476;under 1024;over 1024")
+        each_known("tag=0 ", "frame of 42 bytes;padding;fn above 0")
+        each_known("tag=0 ", "sph=1, tv=0;sph=1, tv=1;dbc expected;dbc another")
+        each_known("tag=0 ", "format kept;format another")
+        each_known("tag=0, for tag 1 ", "a 13;a 16;a 14;sound")
+        each_known("tag=0 time=", "none;outside;late;ahead;unclear;far")
+        each_known("tags 0 1, ", "format kept;format another;no format;format all 0")
+        each_known("tags 0 1, ", "count goes on;count broken;no count, DBC 0;no count, DBC above 0")
+        each_known("tags 0 0 1, count ", "goes on;broken")
+        each_known("tags 1 0 ", "seq=ok;seq=break;mr=ok;mr=change")
+        each_known("tags 0 1 ", "seq=ok;seq=break;mr=ok;mr=change")
+        each_known("tags 0 0 ", "seq=ok;seq=break;mr=ok;mr=change")
+        for (i = 0; i <= 1; i++) {
+            known("tag=" i " first")
+            each_known("tag=" i " first, admitted again after ", "0;1")
+        }
+        known("tags mixed with no flag but format")
+        known("tags 0 and 1 by turns")
+        # A frame that is refused 1 is left out, though it may go on to its tag.
+        for (i = 2; i <= 11; i++) known("tag=0 refused " i)
+        for (i = 2; i <= 11; i++) known("tag=2 or 3 refused " i)
+        each_known("tag=0 refused 15, for tag 1 a ", "13;16;14;15")
+        for (i = 2; i <= 3; i++) {
+            each_known("tag=" i " refused 12, for tag 1 ", "a 13;a 16;a 14;a 15;sound")
+        }
+        each_known("", "tag=1 in all frames;tag=0 in all frames;tags 0 and 1 in accepted frames")
+        told = "tag told from "
+        each_known(told "tag ", "2 as 0;2 as 1;3 as 0;3 as 1;of any stream;of a refused frame")
+        each_known(told "tag ", "0 not seen;0 not kept;1 not kept after 0;before removal")
+        each_known(told, "12 for tag 0;13 for tag 0;13 for tag 0 without data;16 for tag 0")
+        each_known(told "14 for tag 0", "; by quadlets; by DBS 0")
+        known(told "2 for tag 0 over 1468")
+        each_known(told, "no stamp;tv not read;SPH read", " for tag 0")
+        known(told "stamp of tag 0 in its payload")
+        each_known(told "sequence not ", "judged at;judged after;kept at", " tag 0")
+        each_known(told "mr not ", "judged at;judged after;kept at", " tag 0")
+        each_known(told "dbc", "=ok for tag 0;=ok for tag 0 first")
+        each_known(told "dbc of tag 0 ", "by its byte;as 0")
+        each_known(told "no count as ", "0;another;none")
+        each_known(told "count ", "of any stream;not judged after tag 0;before removal")
+        each_known(told "count ", "absent after tag 0;0 after tag 0;absent after a refused frame")
+        each_known(told "count of tag 0 by ", "its byte;its byte and blocks;DBS 0")
+        each_known(told "count moved by ", "1;DBS 0;blocks;quadlets", " at tag 0")
+        each_known(told "format flag of ", "tags 0 0;tags 0 0 by bytes;tags 0 1 by the fields kept")
+        each_known(told "format flag of ", "tag 0 first;tag 1 first")
+        each_known(told "format flag by ", "fields that are 0 with tag 0;the tag alone")
+        each_known(told "no format flag of tags ", "0 1;1 0")
     }
     function came(name) {
         count[name in count ? name : "any other line"]++

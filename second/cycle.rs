@@ -1,7 +1,7 @@
 //! Cycle time (request #101): the cycle and the tick in which a nanosecond lies,
 //! the way back, and how a frame's SYT lies to its arrival.
 
-use crate::frame::parse_frame;
+use crate::frame::{parse_frame, Frame, Tag};
 use crate::refusal::Refusal;
 
 /// Ticks in a cycle.
@@ -169,8 +169,10 @@ fn cycle_offset(syt_cycle: u16, syt_offset: u16, time: CycleTime) -> i64 {
 /// Judges a frame that arrived at `arrival` by its SYT, or answers the number that
 /// the reader refuses it with, or else 62.
 pub fn judge(frame: &[u8], arrival: Nanoseconds) -> Result<Judgement, Refusal> {
-    let cip = parse_frame(frame)?.cip;
-    if cip.low_half == NO_SYT || cip.sph || cip.sid == NO_SYT_SID {
+    let Frame { tag, cip, .. } = parse_frame(frame)?;
+    // Where there is no CIP header there is no SYT; its fields read as 0 and would be
+    // judged (request #108).
+    if tag == Tag::NoCip || cip.low_half == NO_SYT || cip.sph || cip.sid == NO_SYT_SID {
         return Ok(Judgement { kind: CycleKind::None, offset: 0 });
     }
     let (cycle, offset) = (cip.low_half >> 12, cip.low_half & 0x0FFF);
@@ -185,7 +187,7 @@ pub fn judge(frame: &[u8], arrival: Nanoseconds) -> Result<Judgement, Refusal> {
 #[cfg(test)]
 mod tests {
     use super::*;
-    use crate::samples::{of_length, sound, with};
+    use crate::samples::{of_length, sound, tagged_0, with};
 
     /// The seconds, cycle and offset of a nanosecond.
     fn there(nanosecond: u64) -> [u64; 3] {
@@ -377,6 +379,24 @@ mod tests {
     }
 
     #[test]
+    fn no_cip_header() {
+        for arrival in [0, 5, 1_000_000, u64::MAX] {
+            // Bytes that would be a SYT, 0 or too large, and ones that would be refused.
+            for stamp in [0x0000, 0x0001, 0x0C00, 0xFFFF] {
+                let camera = with(with_syt(stamp), 40, 0);
+                assert_eq!(judged(&camera, arrival), NONE);
+                assert_eq!(judged(&with(camera.clone(), 42, 62), arrival), NONE);
+                assert_eq!(judged(&with(camera.clone(), 44, 0x18), arrival), NONE);
+                assert_eq!(judged(&of_length(camera, 7), arrival), NONE);
+            }
+            for length in 0..=4 {
+                assert_eq!(judged(&tagged_0(1, &vec![0; length]), arrival), NONE);
+            }
+        }
+        assert_eq!(judged(&of_length(tagged_0(1, &[]), 1), 0), Err(11));
+    }
+
+    #[test]
     fn syt_offsets() {
         for stamp in [0x0C00, 0x0FFF, 0x7C00, 0xFC00, 0xFFFE] {
             assert_eq!(syt(stamp, 0), Err(62));
@@ -391,7 +411,8 @@ mod tests {
             assert_eq!(judged(&with_syt(stamp)[..41], 0), Err(1));
             assert_eq!(judged(&with_syt(stamp)[..49], 0), Err(11));
             assert_eq!(judged(&with(with_syt(stamp), 12, 0), 0), Err(3));
-            assert_eq!(judged(&with(with_syt(stamp), 40, 0), 0), Err(12));
+            assert_eq!(judged(&with(with_syt(stamp), 40, 0x80), 0), Err(12));
+            assert_eq!(judged(&with(with_syt(stamp), 40, 0xC0), 0), Err(12));
             assert_eq!(judged(&of_length(with_syt(stamp), 7), 0), Err(13));
             assert_eq!(judged(&with(of_length(with_syt(stamp), 7), 42, 63), 0), Err(13));
             assert_eq!(judged(&with(of_length(with_syt(stamp), 7), 44, 0x18), 0), Err(13));

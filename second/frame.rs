@@ -1,4 +1,4 @@
-//! Frames: an Ethernet header with its VLAN tag, an AVTPDU and a CIP header.
+//! Frames: an Ethernet header with its VLAN tag, an AVTPDU and, with tag 1, a CIP header.
 
 use crate::cip::{Cip, CIP_HEADER};
 use crate::refusal::Refusal;
@@ -12,6 +12,16 @@ const LONGEST_FRAME: usize = 1518;
 
 const TPID_VLAN: u16 = 0x8100;
 const ETHERTYPE_AVTP: u16 = 0x22F0;
+
+/// The tag field of an accepted frame: what its stream data opens with.
+#[derive(Clone, Copy, Debug, Default, PartialEq, Eq)]
+pub enum Tag {
+    /// 0: the payload, without a CIP header, as IIDC cameras send it (request #108).
+    #[default]
+    NoCip,
+    /// 1: a CIP header.
+    Cip,
+}
 
 /// An accepted frame: what its Ethernet header, its AVTPDU and its CIP header
 /// say, and the payload as a part of the lent frame.
@@ -31,10 +41,12 @@ pub struct Frame<'a> {
     pub timestamp: u32,
     pub gateway_info: u32,
     pub stream_data_length: u16,
+    pub tag: Tag,
     pub channel: u8,
     pub sy: u8,
+    /// Zero in every field where there is no CIP header.
     pub cip: Cip,
-    /// Whole data blocks in the payload.
+    /// Whole data blocks in the payload; none where there is no CIP header.
     pub blocks: u32,
     pub payload: &'a [u8],
 }
@@ -69,8 +81,26 @@ fn check_headers(head: &[u8; HEADERS]) -> Result<(), Refusal> {
     Ok(())
 }
 
-/// Reads a frame, or answers the first of the numbers 1 to 13, 16 (request #105) and
+/// Takes the stream data of tag 1 apart into its CIP header, the number of its whole data
+/// blocks and its payload, or answers the first of the numbers 13, 16 (request #105) and
 /// 14, in this order, that applies.
+fn parse_cip_data(data: &[u8]) -> Result<(Cip, u32, &[u8]), Refusal> {
+    let Some((cip, payload)) = data.split_first_chunk::<CIP_HEADER>() else {
+        return Err(Refusal::LengthUnderCip);
+    };
+    let cip = Cip::parse(cip);
+    if cip.qpc != 0 {
+        return Err(Refusal::PaddingCount);
+    }
+    let (size, block) = (payload.len() as u32, cip.block_size());
+    if size % block != 0 {
+        return Err(Refusal::BrokenBlock);
+    }
+    Ok((cip, size / block, payload))
+}
+
+/// Reads a frame, or answers the first of the numbers 1 to 12, and for tag 1 those of
+/// its stream data, that applies.
 pub fn parse_frame(frame: &[u8]) -> Result<Frame<'_>, Refusal> {
     let Some((head, rest)) = frame.split_first_chunk::<HEADERS>() else {
         return Err(Refusal::FrameTooShort);
@@ -84,20 +114,11 @@ pub fn parse_frame(frame: &[u8]) -> Result<Frame<'_>, Refusal> {
     let Some(data) = rest.get(..usize::from(stream_data_length)) else {
         return Err(Refusal::LengthOverFrame);
     };
-    if head[40] >> 6 != 1 {
-        return Err(Refusal::Tag);
-    }
-    let Some((cip, payload)) = data.split_first_chunk::<CIP_HEADER>() else {
-        return Err(Refusal::LengthUnderCip);
+    let (tag, (cip, blocks, payload)) = match head[40] >> 6 {
+        0 => (Tag::NoCip, (Cip::default(), 0, data)),
+        1 => (Tag::Cip, parse_cip_data(data)?),
+        _ => return Err(Refusal::Tag),
     };
-    let cip = Cip::parse(cip);
-    if cip.qpc != 0 {
-        return Err(Refusal::PaddingCount);
-    }
-    let (size, block) = (payload.len() as u32, cip.block_size());
-    if size % block != 0 {
-        return Err(Refusal::BrokenBlock);
-    }
 
     Ok(Frame {
         destination: be48(head, 0),
@@ -113,10 +134,11 @@ pub fn parse_frame(frame: &[u8]) -> Result<Frame<'_>, Refusal> {
         timestamp: be32(head, 30),
         gateway_info: be32(head, 34),
         stream_data_length,
+        tag,
         channel: head[40] & 0x3F,
         sy: head[41] & 0x0F,
         cip,
-        blocks: size / block,
+        blocks,
         payload,
     })
 }
@@ -124,7 +146,7 @@ pub fn parse_frame(frame: &[u8]) -> Result<Frame<'_>, Refusal> {
 #[cfg(test)]
 mod tests {
     use super::*;
-    use crate::samples::{of_length, sound, with};
+    use crate::samples::{of_length, sound, tagged_0, with};
 
     /// The number that a frame is refused with, or 0.
     fn refusal(frame: &[u8]) -> u64 {
@@ -186,7 +208,10 @@ mod tests {
         assert_eq!(refusal(&of_length(frame(), 13)), 11);
         assert_eq!(refusal(&with(of_length(frame(), 13), 40, 0x80)), 11);
         assert_eq!(refusal(&with(frame(), 40, 0x80)), 12);
+        assert_eq!(refusal(&with(frame(), 40, 0xC0)), 12);
+        assert_eq!(refusal(&with(of_length(frame(), 0), 40, 0x80)), 12);
         assert_eq!(refusal(&with(of_length(frame(), 0), 40, 0xC0)), 12);
+        assert_eq!(refusal(&with(of_length(frame(), 11), 40, 0xBF)), 12);
         assert_eq!(refusal(&of_length(frame(), 7)), 13);
         assert_eq!(refusal(&of_length(frame(), 8)), 0);
         assert_eq!(refusal(&of_length(frame(), 11)), 14);
@@ -208,7 +233,7 @@ mod tests {
             assert_eq!(refusal(&with(sound(1, &[]), 44, around)), 0);
         }
         // After 12 and 13, though the frame goes on to QPC, and before 14.
-        assert_eq!(refusal(&with_qpc(with(sound(1, &[]), 40, 0), 3)), 12);
+        assert_eq!(refusal(&with_qpc(with(sound(1, &[]), 40, 0x80), 3)), 12);
         for (length, kept) in [(3, 45), (7, 49), (7, 50)] {
             let under_cip = with_qpc(of_length(sound(1, &[]), length), 3);
             assert_eq!(refusal(&under_cip[..kept]), 13);
@@ -257,6 +282,7 @@ mod tests {
             timestamp: 0xFEDC_BA98,
             gateway_info: 0x7654_3210,
             stream_data_length: 12,
+            tag: Tag::Cip,
             channel: 63,
             sy: 5,
             cip,
@@ -265,6 +291,45 @@ mod tests {
         };
         assert_eq!(parse_frame(&frame), Ok(read));
         assert_eq!(parse_frame(&frame).unwrap().payload.as_ptr(), frame[50..].as_ptr());
-        assert!(parse_frame(&with(frame, 44, 0x87)).unwrap().cip.sph);
+        assert!(parse_frame(&with(frame.clone(), 44, 0x87)).unwrap().cip.sph);
+        // With tag 0 the same bytes have no CIP header.
+        let camera = with(frame, 40, 0x3F);
+        let (payload, cip) = (&camera[42..54], Cip::default());
+        let read = Frame { tag: Tag::NoCip, cip, blocks: 0, payload, ..read };
+        assert_eq!(parse_frame(&camera), Ok(read));
+        assert_eq!(parse_frame(&camera).unwrap().payload.as_ptr(), camera[42..].as_ptr());
+    }
+
+    #[test]
+    fn payloads_of_tag_0() {
+        for length in [0, 1, 2, 3, 4, 7, 8, 9, 1020, 1023, 1024, 1025, 1032, 1475, 1476] {
+            // Bytes that would be a QPC, an SPH and a broken block.
+            let data = vec![0xFF; length];
+            for padding in [0, 1, 18].into_iter().filter(|padding| length + padding <= 1476) {
+                let frame = [tagged_0(1, &data), vec![0xEE; padding]].concat();
+                let read = parse_frame(&frame).unwrap();
+                assert_eq!(usize::from(read.stream_data_length), length);
+                assert_eq!((read.tag, read.cip), (Tag::NoCip, Cip::default()));
+                assert_eq!((read.blocks, read.payload), (0, &data[..]));
+            }
+        }
+        assert_eq!(tagged_0(1, &[]).len(), 42);
+        assert_eq!(tagged_0(1, &[0; 1476]).len(), 1518);
+    }
+
+    #[test]
+    fn each_check_of_tag_0() {
+        let frame = || tagged_0(1, &[0xFF; 11]);
+        assert_eq!(refusal(&frame()[..41]), 1);
+        assert_eq!(refusal(&tagged_0(1, &[0; 1477])), 2);
+        assert_eq!(refusal(&with(frame(), 13, 1)), 3);
+        assert_eq!(refusal(&with(frame(), 19, 0x01)), 9);
+        assert_eq!(refusal(&with(frame(), 6, 0x01)), 10);
+        assert_eq!(refusal(&of_length(frame(), 12)), 11);
+        assert_eq!(refusal(&of_length(tagged_0(1, &[]), 1)), 11);
+        for length in 0..=11 {
+            assert_eq!(refusal(&of_length(frame(), length)), 0);
+            assert_eq!(refusal(&with(of_length(frame(), length), 40, 0x80)), 12);
+        }
     }
 }

@@ -1,5 +1,6 @@
 //! The lines of a listing.
 
+use crate::frame::Tag;
 use crate::outcome::Outcome;
 use crate::presentation::Presentation;
 use crate::refusal::Refusal;
@@ -41,7 +42,11 @@ fn push_reception(lines: &mut Vec<u8>, reception: &Reception) {
     let Flags { sequence, block, format, mr } = reception.flags;
     let Presentation { kind, offset, .. } = reception.presentation;
     lines.extend_from_slice(if sequence { b" frame seq=break" } else { b" frame seq=ok" });
-    lines.extend_from_slice(if block { b" dbc=break" } else { b" dbc=ok" });
+    lines.extend_from_slice(match (reception.frame.tag, block) {
+        (Tag::NoCip, _) => b" dbc=none",
+        (Tag::Cip, true) => b" dbc=break",
+        (Tag::Cip, false) => b" dbc=ok",
+    });
     lines.extend_from_slice(if format { b" fmt=change" } else { b" fmt=ok" });
     lines.extend_from_slice(if mr { b" mr=change time=" } else { b" mr=ok time=" });
     lines.extend_from_slice(kind.name());
@@ -82,7 +87,7 @@ mod tests {
     use super::*;
     use crate::frame::parse_frame;
     use crate::presentation::TimeKind;
-    use crate::samples::sound;
+    use crate::samples::{sound, tagged_0};
 
     #[test]
     fn decimals() {
@@ -95,14 +100,16 @@ mod tests {
 
     #[test]
     fn each_line() {
-        let frame = sound(1, &[]);
-        let frame = parse_frame(&frame).unwrap();
-        let received = |flags, kind, offset| {
+        let (deck, camera) = (sound(1, &[]), tagged_0(1, &[]));
+        let [deck, camera] = [&deck, &camera].map(|frame| parse_frame(frame).unwrap());
+        let of_frame = |frame, flags, kind, offset| {
             let presentation = Presentation { kind, offset, time: 0 };
             Outcome::Frame(Reception { frame, flags, presentation })
         };
+        let received = |flags, kind, offset| of_frame(deck, flags, kind, offset);
         let none = Flags::default();
         let all = Flags { sequence: true, block: true, format: true, mr: true };
+        let all_but_block = Flags { block: false, ..all };
         let mut lines = Vec::new();
         push_start(&mut lines);
         push_outcome(&mut lines, 1, &Outcome::Admitted);
@@ -115,6 +122,8 @@ mod tests {
         push_outcome(&mut lines, 8, &received(none, TimeKind::Ahead, i32::MAX));
         push_outcome(&mut lines, 9, &received(none, TimeKind::Unclear, i32::MIN));
         push_outcome(&mut lines, 10, &received(none, TimeKind::Far, 1));
+        push_outcome(&mut lines, 11, &of_frame(camera, none, TimeKind::None, 0));
+        push_outcome(&mut lines, 12, &of_frame(camera, all_but_block, TimeKind::Late, -1));
         push_end(&mut lines, u64::MAX);
         assert_eq!(
             String::from_utf8(lines).unwrap(),
@@ -129,6 +138,8 @@ mod tests {
             8 frame seq=ok dbc=ok fmt=ok mr=ok time=ahead offset=2147483647\n\
             9 frame seq=ok dbc=ok fmt=ok mr=ok time=unclear offset=-2147483648\n\
             10 frame seq=ok dbc=ok fmt=ok mr=ok time=far offset=1\n\
+            11 frame seq=ok dbc=none fmt=ok mr=ok time=none offset=0\n\
+            12 frame seq=break dbc=none fmt=change mr=change time=late offset=-1\n\
             end records=18446744073709551615\n"
         );
     }

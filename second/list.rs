@@ -1,4 +1,4 @@
-//! Lists captures of IEC 61883 streams carried over AVTP (IEEE Std 1722-2011).
+//! Lists captures of IEC 61883 and IIDC streams carried over AVTP (IEEE Std 1722-2011).
 //!
 //! `second_list [FILE..]` lists each capture named, one after the other, each
 //! with a fresh stream table and a first and last line of its own. `-`, or no

@@ -80,8 +80,8 @@ mod tests {
     use crate::capture::LONGEST_RECORD;
     use crate::reading::BUFFER;
     use crate::samples::{
-        admit_record, frame_record, limited_record, record, remove_record, sound, stamped, with,
-        Slow,
+        admit_record, frame_record, limited_record, record, remove_record, sound, stamped,
+        tagged_0, with, Slow,
     };
 
     /// Lists what `input` gives: the lines, and the answer.
@@ -176,6 +176,41 @@ mod tests {
             8 refused 42\n\
             9 refused 43\n\
             end records=9\n"
+        );
+    }
+
+    #[test]
+    fn tag_0_is_listed() {
+        let deck =
+            |sequence, dbc| frame_record(0, &with(with(sound(1, &[0; 4]), 20, sequence), 45, dbc));
+        let camera = |sequence| frame_record(0, &with(tagged_0(1, &[0xFF; 9]), 20, sequence));
+        let capture = [
+            admit_record(1),
+            camera(3),
+            deck(4, 200),
+            camera(5),
+            camera(7),
+            deck(8, 201),
+            camera(9),
+            deck(10, 203),
+            frame_record(0, &tagged_0(2, &[])),
+            frame_record(0, &with(tagged_0(1, &[]), 40, 0x80)),
+        ]
+        .concat();
+        assert_eq!(
+            listed(&capture),
+            "avtp listing 1\n\
+            1 admitted\n\
+            2 frame seq=ok dbc=none fmt=ok mr=ok time=ahead offset=0\n\
+            3 frame seq=ok dbc=ok fmt=change mr=ok time=ahead offset=0\n\
+            4 frame seq=ok dbc=none fmt=change mr=ok time=ahead offset=0\n\
+            5 frame seq=break dbc=none fmt=ok mr=ok time=ahead offset=0\n\
+            6 frame seq=ok dbc=ok fmt=change mr=ok time=ahead offset=0\n\
+            7 frame seq=ok dbc=none fmt=change mr=ok time=ahead offset=0\n\
+            8 frame seq=ok dbc=break fmt=change mr=ok time=ahead offset=0\n\
+            9 refused 15\n\
+            10 refused 12\n\
+            end records=10\n"
         );
     }
 

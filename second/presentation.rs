@@ -109,7 +109,7 @@ mod tests {
     use super::*;
     use crate::frame::parse_frame;
     use crate::refusal::Refusal;
-    use crate::samples::{sound, stamped, with};
+    use crate::samples::{sound, stamped, tagged_0, with};
 
     /// The presentation time of a frame under a transit limit.
     fn limited(frame: &[u8], arrival: u64, limit: u32) -> (TimeKind, i32, u64) {
@@ -329,6 +329,19 @@ mod tests {
         assert_eq!(tv_1(of_blocks(1, 7, 1, 2)), (TimeKind::Ahead, 1, 1001));
         assert_eq!(tv_1(of_blocks(1, 7, 1, 1)), (TimeKind::None, 0, 0));
         assert_eq!(tv_1(of_blocks(1, 7, 1, 0)), (TimeKind::None, 0, 0));
+    }
+
+    #[test]
+    fn tag_0_has_the_avtp_timestamp() {
+        // Bytes that would be a CIP header with SPH 1, before a stamp of its own.
+        let data = [0, 1, 4, 0, 0x80, 0, 0, 0, 0, 0, 3, 0xE9];
+        for length in [0, 1, 2, 3, 4, 8, 9, 12] {
+            let camera = stamped(tagged_0(1, &data[..length]), 1016);
+            assert_eq!(of_bytes(&camera, 1000), (TimeKind::Ahead, 16, 1016));
+            assert_eq!(limited(&camera, 1000, 15), (TimeKind::Far, 16, 1016));
+            assert_eq!(of_bytes(&camera, 1017), (TimeKind::Late, -1, 1016));
+            assert_eq!(of_bytes(&with(camera, 19, 0x80), 1000), (TimeKind::None, 0, 0));
+        }
     }
 
     #[test]

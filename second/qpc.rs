@@ -1,6 +1,7 @@
 //! Cases of QPC (request #105).
 //!
-//! A frame with a QPC that isn't 0 is one of these:
+//! A frame with a QPC that isn't 0 is one of these; one with tag 0 has none (request
+//! #108):
 //!
 //! - `qpc=3 alone`: with QPC 0 it would be listed as a frame.
 //! - `qpc with 13`: with QPC 0 it would be refused with this number.
@@ -16,17 +17,20 @@ use crate::refusal::Refusal;
 use crate::stream::Flags;
 use crate::table::StreamTable;
 
-/// The byte of a frame's record that has QPC, after the kind, the arrival and 44
-/// bytes of the frame; and QPC's bits there.
+/// The bytes of a frame's record that have the tag and QPC, after the kind, the arrival
+/// and 40 or 44 bytes of the frame; and their bits there.
+const TAG_AT: usize = 2 + 8 + 40;
+const TAG_BITS: u8 = 0xC0;
 const QPC_AT: usize = 2 + 8 + 44;
 const QPC_BITS: u8 = 0x38;
 
-/// Sets QPC to 0 if the record has a frame, and answers what it was.
+/// Sets QPC to 0 if the record has a frame with one, and answers what it was.
 fn clear_qpc(record: &mut [u8]) -> u8 {
     if !matches!(parse_record(record), Ok(CaptureRecord::Frame { .. })) {
         return 0;
     }
-    let Some(byte) = record.get_mut(QPC_AT) else {
+    let has_cip = record.get(TAG_AT).is_some_and(|byte| byte & TAG_BITS != 0);
+    let Some(byte) = record.get_mut(QPC_AT).filter(|_| has_cip) else {
         return 0;
     };
     let qpc = (*byte & QPC_BITS) >> 3;

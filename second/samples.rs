@@ -20,6 +20,13 @@ pub fn sound(id: u64, payload: &[u8]) -> Vec<u8> {
     frame
 }
 
+/// A sound frame of the stream with tag 0 (request #108), whose payload has no CIP header
+/// before it.
+pub fn tagged_0(id: u64, payload: &[u8]) -> Vec<u8> {
+    let headers = with(of_length(sound(id, &[]), payload.len() as u16), 40, 0);
+    [&headers[..42], payload].concat()
+}
+
 /// The frame with one byte set.
 pub fn with(mut frame: Vec<u8>, at: usize, byte: u8) -> Vec<u8> {
     frame[at] = byte;

@@ -1,7 +1,7 @@
 //! A stream's record: what is kept of its last frame, and its counts.
 
 use crate::cip::Format;
-use crate::frame::Frame;
+use crate::frame::{Frame, Tag};
 
 /// Counts since admission; each stays at its greatest value once there.
 #[derive(Clone, Copy, Debug, Default, PartialEq, Eq)]
@@ -23,8 +23,13 @@ pub struct StreamRecord {
     /// Whether a frame was accepted since admission.
     pub seen: bool,
     pub sequence: u8,
-    pub next_block: u8,
+    /// The block count expected next, as the last tag 1 frame left it; absent before the
+    /// first (request #108).
+    pub next_block: Option<u8>,
     pub mr: bool,
+    /// The last frame's tag.
+    pub tag: Tag,
+    /// The format of the last tag 1 frame.
     pub format: Format,
     pub counts: Counts,
 }
@@ -56,9 +61,26 @@ impl StreamRecord {
         }
         Flags {
             sequence: frame.sequence != self.sequence.wrapping_add(1),
-            block: frame.cip.dbc != self.next_block,
-            format: frame.cip.format() != self.format,
+            block: self.breaks_block_count(frame),
+            format: self.changes_format(frame),
             mr: frame.mr != self.mr,
+        }
+    }
+
+    /// Whether `frame` has another block count than the one expected.
+    fn breaks_block_count(&self, frame: &Frame) -> bool {
+        match frame.tag {
+            Tag::NoCip => false,
+            Tag::Cip => self.next_block.is_some_and(|next_block| frame.cip.dbc != next_block),
+        }
+    }
+
+    /// Whether `frame` has another tag or another format than the last.
+    fn changes_format(&self, frame: &Frame) -> bool {
+        match (self.tag, frame.tag) {
+            (Tag::NoCip, Tag::NoCip) => false,
+            (Tag::Cip, Tag::Cip) => frame.cip.format() != self.format,
+            (Tag::NoCip, Tag::Cip) | (Tag::Cip, Tag::NoCip) => true,
         }
     }
 
@@ -67,9 +89,12 @@ impl StreamRecord {
         let flags = self.flags(frame);
         self.seen = true;
         self.sequence = frame.sequence;
-        self.next_block = frame.cip.dbc.wrapping_add(frame.blocks as u8);
         self.mr = frame.mr;
-        self.format = frame.cip.format();
+        self.tag = frame.tag;
+        if frame.tag == Tag::Cip {
+            self.next_block = Some(frame.cip.dbc.wrapping_add(frame.blocks as u8));
+            self.format = frame.cip.format();
+        }
         count(&mut self.counts.frames, true);
         count(&mut self.counts.sequence_breaks, flags.sequence);
         count(&mut self.counts.block_breaks, flags.block);
@@ -84,7 +109,7 @@ mod tests {
     use super::*;
     use crate::frame::parse_frame;
     use crate::presentation::LARGEST_LIMIT;
-    use crate::samples::{sound, with};
+    use crate::samples::{sound, tagged_0, with};
 
     /// Steps a record; the letters of the flags raised.
     fn raised(record: &mut StreamRecord, frame: &[u8]) -> String {
@@ -118,12 +143,12 @@ mod tests {
     fn m6_m7_next_block_count() {
         let mut record = newly_admitted();
         raised(&mut record, &with(sound(1, &[0; 32]), 45, 250));
-        assert_eq!(record.next_block, 2);
+        assert_eq!(record.next_block, Some(2));
         let mut record = newly_admitted();
         let frame = with(sound(1, &[0; 4 * 367]), 45, 10);
         assert_eq!(parse_frame(&frame).unwrap().blocks, 367);
         raised(&mut record, &frame);
-        assert_eq!(record.next_block, 121);
+        assert_eq!(record.next_block, Some(121));
     }
 
     #[test]
@@ -164,8 +189,9 @@ mod tests {
                 limit: LARGEST_LIMIT,
                 seen: true,
                 sequence: 19,
-                next_block: 25,
+                next_block: Some(25),
                 mr: false,
+                tag: Tag::Cip,
                 format: Format { fmt: 32, dbs: 2, fraction: 0, sph: true },
                 counts: Counts {
                     frames: 12,
@@ -211,5 +237,72 @@ mod tests {
         assert_eq!(raised(&mut record, &frame(3, 9, 0)), "");
         assert_eq!(raised(&mut record, &frame(4, 9, 256)), "");
         assert_eq!(raised(&mut record, &frame(5, 9, 1)), "");
+    }
+
+    /// A frame of tag 1 with two blocks, and one of tag 0, whose bytes would be a CIP
+    /// header with other fields.
+    fn deck(sequence: u8, dbc: u8) -> Vec<u8> {
+        with(with(sound(1, &[0; 8]), 20, sequence), 45, dbc)
+    }
+
+    fn camera(sequence: u8) -> Vec<u8> {
+        with(tagged_0(1, &[0x55; 1476]), 20, sequence)
+    }
+
+    #[test]
+    fn what_a_tag_0_frame_moves() {
+        let mut record = newly_admitted();
+        assert_eq!(raised(&mut record, &with(camera(7), 19, 0x89)), "");
+        let seen = StreamRecord { seen: true, sequence: 7, mr: true, ..newly_admitted() };
+        let counts = Counts { frames: 1, ..Counts::default() };
+        assert_eq!(record, StreamRecord { counts, ..seen });
+        assert_eq!((record.next_block, record.tag), (None, Tag::NoCip));
+
+        let mut record = newly_admitted();
+        raised(&mut record, &deck(7, 9));
+        let before = record;
+        assert_eq!((before.next_block, before.tag), (Some(11), Tag::Cip));
+        assert_eq!(raised(&mut record, &with(camera(9), 19, 0x89)), "sfm");
+        let counts = Counts {
+            frames: 2,
+            sequence_breaks: 1,
+            format_changes: 1,
+            mr_changes: 1,
+            ..before.counts
+        };
+        let moved = StreamRecord { sequence: 9, mr: true, tag: Tag::NoCip, counts, ..before };
+        assert_eq!(record, moved);
+    }
+
+    #[test]
+    fn block_counts_over_tag_0_frames() {
+        let mut record = newly_admitted();
+        // None is expected yet, 0 no more than any other.
+        assert_eq!(raised(&mut record, &camera(0)), "");
+        assert_eq!(raised(&mut record, &camera(1)), "");
+        assert_eq!(raised(&mut record, &deck(2, 254)), "f");
+        assert_eq!(raised(&mut record, &camera(3)), "f");
+        assert_eq!(raised(&mut record, &camera(4)), "");
+        assert_eq!(raised(&mut record, &deck(5, 0)), "f");
+        assert_eq!(raised(&mut record, &deck(6, 2)), "");
+        assert_eq!(raised(&mut record, &camera(7)), "f");
+        assert_eq!(raised(&mut record, &deck(8, 5)), "bf");
+        assert_eq!(record.counts.block_breaks, 1);
+    }
+
+    #[test]
+    fn a_change_of_tag_is_a_change_of_format() {
+        // The four fields are the same in all tag 1 frames, and then all zero.
+        for zero in [|frame| frame, |frame| with(with(frame, 43, 0), 46, 0)] {
+            let deck = |sequence| zero(with(sound(1, &[]), 20, sequence));
+            let mut record = newly_admitted();
+            assert_eq!(raised(&mut record, &camera(0)), "");
+            assert_eq!(raised(&mut record, &deck(1)), "f");
+            assert_eq!(raised(&mut record, &deck(2)), "");
+            assert_eq!(raised(&mut record, &camera(3)), "f");
+            assert_eq!(raised(&mut record, &camera(4)), "");
+            assert_eq!(raised(&mut record, &deck(5)), "f");
+            assert_eq!(record.counts.format_changes, 3);
+        }
     }
 }

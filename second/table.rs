@@ -80,7 +80,7 @@ impl StreamTable {
 mod tests {
     use super::*;
     use crate::presentation::TimeKind;
-    use crate::samples::{of_length, sound, stamped, with};
+    use crate::samples::{of_length, sound, stamped, tagged_0, with};
 
     /// A table with one stream admitted, without a transit limit.
     fn table(id: u64) -> StreamTable {
@@ -188,6 +188,35 @@ mod tests {
         streams.admit(0, 0).unwrap();
         let anew = with(sound(0, &[]), 20, 9);
         assert_eq!(streams.receive(&anew, 0).unwrap().flags, Flags::default());
+    }
+
+    #[test]
+    fn no_count_and_no_tag_outlive_a_removal() {
+        let mut streams = table(1);
+        let deck = |dbc| with(sound(1, &[]), 45, dbc);
+        // Sequence numbers don't go on here.
+        let none = Flags { sequence: true, ..Flags::default() };
+        streams.receive(&deck(4), 0).unwrap();
+        streams.remove(1).unwrap();
+        streams.admit(1, LARGEST_LIMIT).unwrap();
+        let camera = tagged_0(1, &[]);
+        assert_eq!(streams.receive(&camera, 0).unwrap().flags, Flags::default());
+        assert_eq!(streams.receive(&camera, 0).unwrap().flags, none);
+        let changed = Flags { format: true, ..none };
+        assert_eq!(streams.receive(&deck(9), 0).unwrap().flags, changed);
+        streams.remove(1).unwrap();
+        streams.admit(1, LARGEST_LIMIT).unwrap();
+        assert_eq!(streams.receive(&camera, 0).unwrap().flags, Flags::default());
+    }
+
+    #[test]
+    fn tag_0_of_a_stream_not_admitted() {
+        let mut streams = table(1);
+        for data in [&[][..], &[0; 3], &[0xFF; 9]] {
+            assert_eq!(streams.receive(&tagged_0(2, data), 0), Err(Refusal::StreamNotAdmitted));
+            let tag_2 = with(tagged_0(2, data), 40, 0x80);
+            assert_eq!(streams.receive(&tag_2, 0), Err(Refusal::Tag));
+        }
     }
 
     /// The kind of time of a frame of the stream that is ahead by this much.

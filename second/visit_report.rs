@@ -83,8 +83,8 @@ mod tests {
     use super::*;
     use crate::capture::LONGEST_RECORD;
     use crate::samples::{
-        admit_record, frame_record, limited_record, record, remove_record, sound, stamped, with,
-        Slow,
+        admit_record, frame_record, limited_record, record, remove_record, sound, stamped,
+        tagged_0, with, Slow,
     };
 
     /// Reports what `input` gives: the lines, and the answer.
@@ -153,6 +153,22 @@ mod tests {
             frame_record(1000, &stamped(first, 2_147_484_647)),
         ];
         assert_eq!(reported(&capture), "1 10 6 2 3 2 1 0 1 1 4 1 2 -20 5 0 0/5 0\n");
+    }
+
+    #[test]
+    fn tag_0_frames_are_counted() {
+        let camera = |sequence| with(tagged_0(1, &[0xFF; 9]), 20, sequence);
+        let deck = |sequence, dbc| with(with(sound(1, &[0; 4]), 20, sequence), 45, dbc);
+        let capture = [
+            limited_record(1, 5),
+            frame_record(1000, &stamped(camera(0), 1005)),
+            frame_record(1000, &stamped(camera(1), 1006)),
+            frame_record(1000, &with(camera(2), 19, 0x80)),
+            frame_record(1000, &stamped(deck(3, 7), 997)),
+            frame_record(1000, &stamped(camera(4), 2_147_484_648)),
+            frame_record(1000, &stamped(deck(5, 9), 1000)),
+        ];
+        assert_eq!(reported(&capture), "1 6 0 1 3 0 1 0 0 1 2 1 1 -3 5 2 2/3 0\n");
     }
 
     #[test]

@@ -221,6 +221,36 @@ const ACCEPTED: &[fn(&mut Frame)] = &[
     |frame| frame.padding = vec![0xFF; 4],
     |frame| (frame.dbs, frame.padding) = (0, vec![0xFF; 4]),
     |frame| (frame.low_half, frame.padding) = (0x0C00, vec![0; 4]),
+    // Tag 0 has no SYT, whatever stands there (request #108).
+    |frame| frame.tag = 0,
+    |frame| (frame.tag, frame.low_half) = (0, 0x0C00),
+    |frame| (frame.tag, frame.low_half) = (0, 0xFFFF),
+    |frame| (frame.tag, frame.sid) = (0, 62),
+    |frame| (frame.tag, frame.sid) = (0, 63),
+    |frame| (frame.tag, frame.sph) = (0, true),
+    |frame| (frame.tag, frame.tv) = (0, false),
+    // With tag 1 it would be a 13, a 16 and a 14.
+    |frame| (frame.tag, frame.stream_data_length) = (0, 7),
+    |frame| (frame.tag, frame.stream_data_length) = (0, 0),
+    |frame| (frame.tag, frame.qpc) = (0, 3),
+    |frame| {
+        (frame.tag, frame.dbs) = (0, 2);
+        frame.carry(vec![0; 4]);
+    },
+    |frame| {
+        frame.tag = 0;
+        frame.carry(vec![0; 3]);
+    },
+    // Without room for a CIP header, with just enough, and with more.
+    |frame| frame.carry_bare(vec![]),
+    |frame| frame.carry_bare(vec![0]),
+    |frame| frame.carry_bare(vec![0; 7]),
+    |frame| frame.carry_bare(vec![0; 8]),
+    |frame| frame.carry_bare(vec![0; 12]),
+    |frame| {
+        frame.carry_bare(vec![]);
+        frame.padding = vec![0; 8];
+    },
 ];
 
 /// What is changed in frames that the reader refuses, whatever their SYT. Each is
@@ -240,10 +270,17 @@ const REFUSED: &[fn(&mut Frame)] = &[
     |frame| frame.source[0] |= 1,
     // 11.
     |frame| frame.stream_data_length = 9,
-    // 12, alone, with a SID and an SPH that would be none, and with a QPC.
-    |frame| frame.tag = 0,
+    // 11, 10 and 3 with tag 0.
+    |frame| (frame.tag, frame.stream_data_length) = (0, 9),
+    |frame| (frame.tag, frame.source[0]) = (0, 3),
+    |frame| (frame.tag, frame.tpid) = (0, 0x88A8),
+    // 12, alone, with a SID and an SPH that would be none, with a QPC, and with a length
+    // under 8.
+    |frame| frame.tag = 2,
+    |frame| frame.tag = 3,
     |frame| (frame.tag, frame.sid, frame.sph) = (2, 63, true),
     |frame| (frame.tag, frame.qpc) = (3, 3),
+    |frame| (frame.tag, frame.stream_data_length) = (2, 7),
     // 13, alone and with a QPC.
     |frame| frame.stream_data_length = 7,
     |frame| (frame.stream_data_length, frame.qpc) = (7, 3),

@@ -1,5 +1,6 @@
 //! Questions about cycle time for a long comparison.
 
+use crate::bare::bare_payload;
 use crate::chance::Chance;
 use crate::damage::{spoil, FIELD_CHECKS};
 use crate::frames::Frame;
@@ -144,13 +145,17 @@ fn frame_at(chance: &mut Chance, arrival: u64) -> Frame {
         1 => 62,
         _ => frame.sid,
     };
-    match chance.below(4) {
+    match chance.below(5) {
         0 => frame.carry(chance.bytes(4)),
         1 => {
             let padding = chance.within(1, 4);
             frame.padding = chance.bytes(padding);
         }
         2 => frame.dbs = chance.pick(&[0, 1, 2, 6, 255]),
+        3 => {
+            let payload = bare_payload(chance, &frame, LONGEST_FRAME - 42);
+            frame.carry_bare(payload);
+        }
         _ => {}
     }
     frame

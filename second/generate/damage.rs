@@ -10,7 +10,8 @@ pub const CHECKS: [u8; 15] = [1, 2, 3, 4, 5, 6, 7, 8, 9, 10, 11, 12, 13, 16, 14]
 pub const FIELD_CHECKS: &[u8] = CHECKS.split_at(2).1;
 
 /// Makes the frame one that check `number` (3 to 16) refuses, if no other does; for 15,
-/// if no stream is admitted whose id differs from the frame's in one bit.
+/// if no stream is admitted whose id differs from the frame's in one bit; for 13, 16 and
+/// 14, if it has a CIP header.
 pub fn spoil(chance: &mut Chance, frame: &mut Frame, number: u8) {
     match number {
         3 => frame.tpid = chance.pick(&[0x8101, 0x8000, 0x0100, 0x9100, 0x88A8, 0x0081, 0]),
@@ -31,7 +32,7 @@ pub fn spoil(chance: &mut Chance, frame: &mut Frame, number: u8) {
             frame.stream_data_length =
                 if chance.one_in(8) { u16::MAX } else { frame.room() + over };
         }
-        12 => frame.tag = chance.pick(&[0, 2, 3]),
+        12 => frame.tag = chance.pick(&[2, 3]),
         13 => frame.stream_data_length = chance.pick(&[0, 1, 4, 6, 7, 7]),
         15 => frame.stream_id ^= 1 << chance.below(64),
         16 => frame.qpc = chance.within(1, 7) as u8,
@@ -41,7 +42,7 @@ pub fn spoil(chance: &mut Chance, frame: &mut Frame, number: u8) {
             }
             // One to three bytes missing, or a quadlet of a longer block.
             let missing = if frame.dbs != 1 && chance.flip() { 4 } else { chance.within(1, 3) };
-            frame.stream_data_length = (frame.payload.len() + 8 - missing) as u16;
+            frame.stream_data_length = frame.data_length() - missing as u16;
             if chance.flip() {
                 frame.payload.truncate(frame.payload.len() - missing);
             }

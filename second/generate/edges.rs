@@ -1,9 +1,10 @@
 //! Captures at the edges of one rule each.
 
+use crate::bare::bare_payload;
 use crate::captures::{Capture, SMALL};
 use crate::chance::Chance;
 use crate::damage::{spoil, spoiled, FIELD_CHECKS};
-use crate::frames::{block_size, Frame};
+use crate::frames::{block_size, Frame, LONGEST_BARE_PAYLOAD};
 use crate::limits;
 use crate::senders::{stream_ids, Sender};
 use crate::times::{around_half_a_wrap, arrival, offset, stamp};
@@ -75,6 +76,8 @@ pub fn lengths(chance: &mut Chance) -> Capture {
         ]);
         let payload = usize::saturating_sub(length, 50);
         frame.carry(chance.bytes(payload));
+        // With tag 0, what is else the CIP header is payload.
+        frame.tag = chance.pick(&[1, 1, 1, 0]);
         frame.stream_data_length = match chance.below(7) {
             0 => length.saturating_sub(42) as u16,
             1 => length.saturating_sub(41) as u16,
@@ -178,6 +181,7 @@ pub fn times(chance: &mut Chance) -> Capture {
         frame.sequence = frame.sequence.wrapping_add(1);
         frame.tv = !chance.one_in(5);
         frame.tu = chance.flip();
+        frame.choose_bare(chance.one_in(6));
         frame.sph = chance.one_in(3);
         frame.dbs = chance.pick(&[1, 2, 6]);
         let blocks = if chance.one_in(4) { 0 } else { chance.within(1, 3) };
@@ -190,12 +194,13 @@ pub fn times(chance: &mut Chance) -> Capture {
             frame.stamp(stamp(at, offset));
         }
         capture.frame(at, &frame.bytes());
-        frame.dbc = frame.dbc.wrapping_add(blocks as u8);
+        frame.dbc = frame.dbc.wrapping_add(frame.blocks() as u8);
     }
     capture
 }
 
-/// Block sizes and counts: DBS 0 whole and broken, over 256 blocks, none.
+/// Block sizes and counts: DBS 0 whole and broken, over 256 blocks, none. Now and then a
+/// frame of tag 0 is between.
 pub fn blocks(chance: &mut Chance) -> Capture {
     let mut capture = Capture::new(SMALL);
     capture.admit(u64::MAX);
@@ -203,6 +208,12 @@ pub fn blocks(chance: &mut Chance) -> Capture {
     for _ in 0..120 {
         if capture.full() {
             break;
+        }
+        if chance.one_in(8) {
+            let mut camera = frame.clone();
+            camera.carry_bare(bare_payload(chance, &frame, LONGEST_BARE_PAYLOAD));
+            capture.frame(arrival(chance), &camera.bytes());
+            frame.sequence = frame.sequence.wrapping_add(1);
         }
         let (dbs, payload) = match chance.below(10) {
             0 => (0, chance.bytes(1024)),

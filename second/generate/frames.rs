@@ -2,8 +2,9 @@
 
 use crate::chance::Chance;
 
-/// Longest payload of a frame.
+/// Longest payload of a frame, after a CIP header or without one.
 pub const LONGEST_PAYLOAD: usize = 1468;
+pub const LONGEST_BARE_PAYLOAD: usize = 1476;
 
 /// Every field of a frame, those that readers ignore too.
 #[derive(Clone, Default)]
@@ -34,6 +35,8 @@ pub struct Frame {
     pub channel: u8,
     pub tcode: u8,
     pub sy: u8,
+    /// Whether the payload has no CIP header before it, as with tag 0 (request #108).
+    pub bare: bool,
     pub indicators: [u8; 2],
     pub sid: u8,
     pub dbs: u8,
@@ -95,6 +98,7 @@ impl Frame {
             channel: chance.byte() & 0x3F,
             tcode: chance.byte() & 0xF,
             sy: chance.byte() & 0xF,
+            bare: false,
             indicators: [chance.byte() & 3, chance.byte() & 3],
             sid: chance.byte() & 0x3F,
             dbs: 1,
@@ -113,8 +117,39 @@ impl Frame {
 
     /// Sets the payload, and stream_data_length by it.
     pub fn carry(&mut self, payload: Vec<u8>) {
-        self.stream_data_length = payload.len() as u16 + 8;
         self.payload = payload;
+        self.stream_data_length = self.data_length();
+    }
+
+    /// Makes the frame one of tag 0, or of tag 1; its payload is yet to be set.
+    pub fn choose_bare(&mut self, bare: bool) {
+        (self.tag, self.bare) = (u8::from(!bare), bare);
+    }
+
+    /// Makes the frame one of tag 0 with this payload.
+    pub fn carry_bare(&mut self, payload: Vec<u8>) {
+        self.choose_bare(true);
+        self.carry(payload);
+    }
+
+    /// The stream_data_length of all the payload, with the CIP header if there is one.
+    pub fn data_length(&self) -> u16 {
+        self.payload.len() as u16 + if self.bare { 0 } else { 8 }
+    }
+
+    /// Sets bytes after the payload, at most as many as the longest frame has room for.
+    pub fn pad(&mut self, mut padding: Vec<u8>) {
+        padding.truncate(LONGEST_BARE_PAYLOAD - usize::from(self.data_length()));
+        self.padding = padding;
+    }
+
+    /// Whole blocks in the payload.
+    pub fn blocks(&self) -> usize {
+        if self.bare {
+            0
+        } else {
+            self.payload.len() / block_size(self.dbs)
+        }
     }
 
     /// Blocks before the first that opens a source packet, whether or not the frame
@@ -125,7 +160,7 @@ impl Frame {
 
     /// Sets the stamp where the frame has one.
     pub fn stamp(&mut self, stamp: u32) {
-        if !self.sph {
+        if self.bare || !self.sph {
             self.timestamp = stamp;
             return;
         }
@@ -137,7 +172,22 @@ impl Frame {
 
     /// The greatest stream_data_length that the frame has room for.
     pub fn room(&self) -> u16 {
-        (self.payload.len() + self.padding.len() + 8) as u16
+        self.data_length() + self.padding.len() as u16
+    }
+
+    /// The CIP header, whether or not the frame has one.
+    pub fn cip_header(&self) -> [u8; 8] {
+        let [high, low] = self.low_half.to_be_bytes();
+        [
+            self.indicators[0] << 6 | self.sid,
+            self.dbs,
+            self.fraction << 6 | self.qpc << 3 | u8::from(self.sph) << 2 | self.cip_reserved,
+            self.dbc,
+            self.indicators[1] << 6 | self.fmt,
+            self.fdf,
+            high,
+            low,
+        ]
     }
 
     pub fn bytes(&self) -> Vec<u8> {
@@ -160,13 +210,9 @@ impl Frame {
         out.extend_from_slice(&self.stream_data_length.to_be_bytes());
         out.push(self.tag << 6 | self.channel);
         out.push(self.tcode << 4 | self.sy);
-        out.push(self.indicators[0] << 6 | self.sid);
-        out.push(self.dbs);
-        out.push(self.fraction << 6 | self.qpc << 3 | bit(self.sph, 2) | self.cip_reserved);
-        out.push(self.dbc);
-        out.push(self.indicators[1] << 6 | self.fmt);
-        out.push(self.fdf);
-        out.extend_from_slice(&self.low_half.to_be_bytes());
+        if !self.bare {
+            out.extend_from_slice(&self.cip_header());
+        }
         out.extend_from_slice(&self.payload);
         out.extend_from_slice(&self.padding);
         out

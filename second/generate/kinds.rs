@@ -1,5 +1,6 @@
 //! Which kind of capture each index stands for.
 
+use crate::cameras::cameras;
 use crate::captures::SMALL;
 use crate::chance::Chance;
 use crate::edges::{admissions, blocks, lengths, padding_counts, records, refusals, times};
@@ -18,7 +19,7 @@ pub fn capture(seed: u64, index: u64) -> Vec<u8> {
     if index % 100 == 50 {
         return long(chance).bytes;
     }
-    let capture = match index % 19 {
+    let capture = match index % 22 {
         0 => refusals(chance),
         1 => lengths(chance),
         2 => admissions(chance),
@@ -33,6 +34,7 @@ pub fn capture(seed: u64, index: u64) -> Vec<u8> {
         13 | 14 => visits(chance),
         15 => padding_counts(chance),
         16 | 17 => transit_limits(chance),
+        18..=20 => cameras(chance),
         _ => {
             let records = chance.within(5, 190);
             traffic(chance, SMALL, records)

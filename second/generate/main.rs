@@ -1,4 +1,4 @@
-//! Generates captures of IEC 61883 streams over AVTP: sound, damaged and
+//! Generates captures of IEC 61883 and IIDC streams over AVTP: sound, damaged and
 //! hostile ones, the same for the same seed; and questions about cycle time.
 //!
 //! - `generate DIR SEED COUNT` writes COUNT captures DIR/000000.cap and on.
@@ -18,6 +18,8 @@
 //!
 //! Build: `build.sh OUTDIR`.
 
+mod bare;
+mod cameras;
 mod captures;
 mod chance;
 mod cycle_edges;

@@ -73,5 +73,15 @@ pub fn bench_captures(dir: &Path) -> io::Result<()> {
         let packets = chance.within(1, 7);
         frame.carry(chance.bytes(packets * 192));
         frame.stamp(stamp(at, 2_000_000));
-    })
+    })?;
+    // IIDC: pictures of 320 by 240 pixels, a line of 640 bytes a frame, with tag 0.
+    bench(
+        &dir.join("camera-4.cap"),
+        4,
+        |_| (),
+        |chance, frame, at| {
+            frame.carry_bare(chance.bytes(640));
+            frame.stamp(stamp(at, 2_000_000));
+        },
+    )
 }

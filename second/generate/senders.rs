@@ -1,5 +1,6 @@
 //! Streams and what sends their frames.
 
+use crate::bare::bare_payload;
 use crate::chance::Chance;
 use crate::frames::{block_size, Frame, LONGEST_PAYLOAD};
 use crate::times::{offset, stamp};
@@ -12,6 +13,8 @@ pub struct Sender {
     pub most_blocks: usize,
     pub sequence: u8,
     pub dbc: u8,
+    /// How many of eight frames have tag 0 (request #108).
+    pub tag_0: usize,
 }
 
 impl Sender {
@@ -21,6 +24,7 @@ impl Sender {
             most_blocks: 0,
             sequence: chance.pick(&[0, 250, 253, 255, 128]),
             dbc: chance.byte(),
+            tag_0: chance.pick(&[0, 0, 0, 0, 0, 0, 0, 1, 4, 8]),
         };
         sender.choose_format(chance);
         sender
@@ -66,30 +70,59 @@ impl Sender {
 
     /// The next frame, as it arrives at `arrival`.
     pub fn send(&mut self, chance: &mut Chance, arrival: u64) -> Frame {
-        let mut frame = self.frame.clone();
+        if chance.below(8) < self.tag_0 {
+            let most = self.most_blocks * block_size(self.frame.dbs) + 8;
+            self.send_bare(chance, arrival, most)
+        } else {
+            self.send_blocks(chance, arrival)
+        }
+    }
+
+    /// The next frame, which has tag 1.
+    pub fn send_blocks(&mut self, chance: &mut Chance, arrival: u64) -> Frame {
+        let mut frame = self.next_frame(chance);
         let blocks = match chance.below(4) {
             0 => chance.within(0, self.most_blocks),
             1 if chance.one_in(4) => 0,
             _ => self.most_blocks,
         };
-        let payload = chance.bytes(blocks * block_size(frame.dbs));
-        frame.carry(payload);
+        frame.carry(chance.bytes(blocks * block_size(frame.dbs)));
+        self.dbc = self.dbc.wrapping_add(blocks as u8);
+        finish(chance, &mut frame, arrival);
+        frame
+    }
+
+    /// The next frame, which has tag 0 and a payload of up to `most` bytes.
+    pub fn send_bare(&mut self, chance: &mut Chance, arrival: u64, most: usize) -> Frame {
+        let mut frame = self.next_frame(chance);
+        let payload = bare_payload(chance, &frame, most);
+        frame.carry_bare(payload);
+        finish(chance, &mut frame, arrival);
+        frame
+    }
+
+    /// The next frame without its payload.
+    fn next_frame(&mut self, chance: &mut Chance) -> Frame {
+        let mut frame = self.frame.clone();
         frame.tv = !chance.one_in(6);
         frame.tu = chance.one_in(4);
         frame.sequence = self.sequence;
         frame.dbc = self.dbc;
         frame.tcode = chance.byte() & 0xF;
-        frame.stamp(stamp(arrival, offset(chance)));
-        let padding = match chance.below(6) {
-            0 => chance.within(1, 14),
-            1 if frame.payload.is_empty() => 10,
-            _ => 0,
-        };
-        frame.padding = chance.bytes(padding.min(LONGEST_PAYLOAD - frame.payload.len()));
         self.sequence = self.sequence.wrapping_add(1);
-        self.dbc = self.dbc.wrapping_add(blocks as u8);
         frame
     }
+}
+
+/// Gives a frame with its payload a stamp, and some padding.
+fn finish(chance: &mut Chance, frame: &mut Frame, arrival: u64) {
+    frame.stamp(stamp(arrival, offset(chance)));
+    let padding = match chance.below(6) {
+        0 => chance.within(1, 14),
+        1 if frame.payload.is_empty() => 10,
+        _ => 0,
+    };
+    frame.pad(chance.bytes(padding));
 }
 
 /// Stream ids, none twice: any, the least and the greatest, and some that

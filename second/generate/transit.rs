@@ -42,8 +42,8 @@ impl Limited {
         let at = arrival_for(chance, offset);
         let frame = &mut self.frame;
         frame.sequence = frame.sequence.wrapping_add(1);
-        let before = frame.payload.len() / block_size(frame.dbs);
-        frame.dbc = frame.dbc.wrapping_add(before as u8);
+        frame.dbc = frame.dbc.wrapping_add(frame.blocks() as u8);
+        frame.choose_bare(chance.one_in(8));
         frame.tv = !chance.one_in(12);
         frame.sph = chance.flip();
         frame.fraction = chance.below(4) as u8;

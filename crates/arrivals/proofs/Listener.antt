@@ -7,14 +7,12 @@ use native.Mathlib.Omega.{arith}
 use borrow.Author.Tests.{ltb-false, le-ltb, not-false}
 use lib.ListN.{length, drop, set, length-set}
 use Rattle.frame.specs.declared.layout.Fields.{Fields}
-use Rattle.frame.specs.Layout.{fieldsOf}
 use Rattle.refusal.specs.Refusals.{firstOf, ifAccepted}
 use Rattle.frame.specs.Checks.{refusal}
 use Rattle.refusal.proofs.First.{clear, orElse}
 use Rattle.writer.specs.declared.Sender.{Sender}
 use Rattle.writer.specs.Writing.{writeRefusal, advanced, writing}
-use Rattle.round_trip.specs.ReadBack.{SenderTyped, GivenTyped, fieldsWritten, frameLeft}
-use Rattle.round_trip.specs.WriteBack.{senderOf}
+use Rattle.round_trip.specs.ReadBack.{SenderTyped, GivenTyped, headerWritten, fieldsWritten, frameLeft}
 use Rattle.round_trip.specs.Successive.{Call, successive, CallsTyped, Delivered, senderAfter, Gapless}
 use Rattle.round_trip.proofs.ReadBack.{left-bytes, fields-back}
 use Rattle.round_trip.proofs.Gapless.{advanced-typed, gapless}
@@ -41,7 +39,7 @@ module _ (k : ℕ) (s : Sender) (c : Call) (cs : List Call) (sender : SenderType
   one-id : (n : ℕ) → writeRefusal (c .given) (length (c .payload)) (length (c .out)) ≡ n → (fs : List (List ℕ))
       → Delivered (ifAccepted n (frameLeft s (c .given) (c .payload) (c .out) ∷ []) [] ++ successive (ifAccepted n (advanced s (c .given) (c .payload)) s) cs) fs
       → OfId k fs
-  unfolding idOf fieldsWritten
+  unfolding idOf fieldsWritten headerWritten
   one-id zero e [] h = absurd h
   one-id zero e (f ∷ fs) h =
       let g = c .given in
@@ -67,18 +65,17 @@ ids-drop k (suc n) (f ∷ fs) h = ids-drop k n fs (h .1)
 gapless-drop : (n : ℕ) (s : Sender) (fs : List (List ℕ)) → Gapless s fs → (t : Sender) × Gapless t (drop n fs)
 gapless-drop zero s fs h = (s, h)
 gapless-drop (suc n) s [] h = (s, tt)
-gapless-drop (suc n) s (f ∷ fs) h = gapless-drop n (senderAfter f) fs (h .2)
+gapless-drop (suc n) s (f ∷ fs) h = gapless-drop n (senderAfter s f) fs (h .2)
 
 -- ---- the replay of a newly admitted record
 
 unbroken : (r : Record) (s : Sender) (l : List Arrival) → Expects r (s .sequence) (s .dbc) → Gapless s (frames l) → Unbroken ((replay r l) .0)
-unfolding replay answerOf senderOf senderAfter
+unfolding replay answerOf senderAfter
 unbroken r s [] x h = tt
 unbroken r s (a ∷ l) x h =
-    let e : senderOf (fieldsOf (a .frame)) ≡ s = h .1 in
-    let y : Expects r (fieldsOf (a .frame) .header .avtp .sequence) (fieldsOf (a .frame) .cip .dbc) = subst (λ (z : Sender). Expects r (z .sequence) (z .dbc)) (sym e) x in
-    let q = no-breaks r (a .frame) (a .time) y in
-    ((refl, q .0, q .1), unbroken (after r (a .frame) (a .time)) (senderAfter (a .frame)) l (expects-next r (a .frame) (a .time)) (h .2))
+    let q = no-breaks r (a .frame) (a .time) (s .sequence) (s .dbc) x (h .1 .sequence) (h .1 .dbc) in
+    let y = expects-next r (a .frame) (a .time) (s .sequence) (s .dbc) x (h .1 .sequence) (h .1 .dbc) in
+    ((refl, q .0, q .1), unbroken (after r (a .frame) (a .time)) (senderAfter s (a .frame)) l y (h .2))
 
 -- ---- admission
 
@@ -136,7 +133,7 @@ module _ (u : Table) (k limit : ℕ) (x : Admitted u k limit) where
   all-mine s [] g h = tt
   all-mine s (a ∷ l) g h =
       let there : any (holds (idOf (a .frame))) u ≡ true = rw (h .0) (stream-place k u (x .place) (new k limit) (x .stream) .0) in
-      (of-stream u a k (accepts u (a .frame) (x .short) (g .0) there) (h .0), all-mine (senderAfter (a .frame)) l (g .2) (h .1))
+      (of-stream u a k (accepts u (a .frame) (x .short) (g .0) there) (h .0), all-mine (senderAfter s (a .frame)) l (g .2) (h .1))
 
   those-all : (l : List Arrival) → AllMine l → those (ofStream u k) l ≡ l
   unfolding those

@@ -2,7 +2,7 @@
 use libc::STDERR_FILENO;
 
 pub(crate) fn show_version() {
-    messages::write(b"avtp_list", b"avtp_list 1.4\n");
+    messages::write(b"avtp_list", b"avtp_list 1.5\n");
 }
 
 // No capture is named, and standard input is a terminal.

@@ -2,7 +2,7 @@
 use libc::STDERR_FILENO;
 
 pub(crate) fn show_version() {
-    messages::write(b"avtp_report", b"avtp_report 1.3\n");
+    messages::write(b"avtp_report", b"avtp_report 1.4\n");
 }
 
 // No capture is named, and standard input is a terminal.

@@ -14,7 +14,6 @@ use Rattle.refusal.specs.declared.Verdict.{Verdict}
 use Rattle.refusal.specs.declared.Verdict.the-variants as verdict
 use Rattle.refusal.specs.Refusals.{numberOf, verdictNumber}
 use Rattle.refusal.proofs.First.{positive}
-use Rattle.frame.specs.declared.layout.Cip.{Cip}
 use Rattle.frame.specs.declared.layout.Fields.{Fields}
 use Rattle.frame.specs.declared.Reading.{Reading}
 use Rattle.frame.specs.declared.Reading.the-variants as answer
@@ -76,26 +75,26 @@ due-tick n h =
     let cycle : n / 4096 ≡ n / 4096 % 16 = omega arith in
     λ i. record { 0 = cycle i * 3_072 + offset-field n i }
 
-module _ (cip : Cip) (L : Nanoseconds) where
-  pub answers-none : true ≡ givesNone cip → judgementAnswer (Judged untimed) ≡ judged cip L
+module _ (f : Fields) (L : Nanoseconds) where
+  pub answers-none : true ≡ givesNone f → judgementAnswer (Judged untimed) ≡ judged f L
   unfolding judged
   answers-none e = rw (← e)
 
-  module _ (e : false ≡ givesNone cip) where
-    pub offset-too-large : 3_071 < bitAnd (cip .«low_half») 0xfff → refusedWith 62 ≡ judged cip L
+  module _ (e : false ≡ givesNone f) where
+    pub offset-too-large : 3_071 < bitAnd (f .cip .«low_half») 0xfff → refusedWith 62 ≡ judged f L
     unfolding judged
-    offset-too-large h = rw (← e, ← offset-field (cip .«low_half»), lt-ltb 3_071 (bitAnd (cip .«low_half») 0xfff) h)
+    offset-too-large h = rw (← e, ← offset-field (f .cip .«low_half»), lt-ltb 3_071 (bitAnd (f .cip .«low_half») 0xfff) h)
 
-    pub by-offset : bitAnd (cip .«low_half») 0xfff ≤ 3_071 → {t : CycleTiming}
-        → t ≡ timedBy (cycleOffset (tickInSecond L) (dueTick (cip .«low_half»))) → judgementAnswer (Judged t) ≡ judged cip L
+    pub by-offset : bitAnd (f .cip .«low_half») 0xfff ≤ 3_071 → {t : CycleTiming}
+        → t ≡ timedBy (cycleOffset (tickInSecond L) (dueTick (f .cip .«low_half»))) → judgementAnswer (Judged t) ≡ judged f L
     unfolding judged
-    by-offset h q = rw (← e, ← offset-field (cip .«low_half»), le-ltb 3_071 (bitAnd (cip .«low_half») 0xfff) h, q)
+    by-offset h q = rw (← e, ← offset-field (f .cip .«low_half»), le-ltb 3_071 (bitAnd (f .cip .«low_half») 0xfff) h, q)
 
 module _ (frame : List ℕ) (L : Nanoseconds) {x : Reading} (read : readAnswer x ≡ reading frame) where
   pub reader-refuses : {r : Refusal} → x ≡ answer.Refused r → refusedWith (numberOf r) ≡ judgement frame L
   unfolding judgement
   reader-refuses {r} z = let p = positive r in rw (refused-number frame read z, p .1)
 
-  pub reader-accepts : {f : Fields} {a : JudgementAnswer} → x ≡ answer.Accepted f → a ≡ judged (f .cip) L → a ≡ judgement frame L
+  pub reader-accepts : {f : Fields} {a : JudgementAnswer} → x ≡ answer.Accepted f → a ≡ judged f L → a ≡ judgement frame L
   unfolding judgement
   reader-accepts z q = rw (accepted-number frame read z, ← accepted-fields frame read z) q

@@ -1,14 +1,14 @@
--- A frame judged by its SYT (request #101). L is the arrival time, in nanoseconds.
+-- A frame judged by its SYT (requests #101 and #108). L is the arrival time, in nanoseconds.
 use Prim.Native.Nat.{ℕ, _+_, _*_, _%_}
 use mathlib.Core.Path.{_≡_}
-use mathlib.Core.Bool.{Bool, _||_, cond}
+use mathlib.Core.Bool.{Bool, not, _||_, cond}
 use mathlib.Core.List.{List}
 use lib.Dec.{eqb}
 use lib.IntN.{ℤ, pos, negsuc, negℤ}
 use Rattle.wire.specs.Bits.{field}
 use Rattle.refusal.specs.Refusals.{numberOf, ifAccepted}
-use Rattle.frame.specs.declared.layout.Cip.{Cip}
-use Rattle.frame.specs.Layout.{fieldsOf}
+use Rattle.frame.specs.declared.layout.Fields.{Fields}
+use Rattle.frame.specs.Layout.{fieldsOf, cipIn}
 use Rattle.frame.specs.Checks.{refusal}
 use Rattle.wrapping.specs.Wrapping.{offset, TheOffset}
 use Rattle.cycle.specs.declared.Nanoseconds.{Nanoseconds}
@@ -41,9 +41,9 @@ side (pos n) = Ahead
 unfoldable pub timedBy : ℤ → CycleTiming
 timedBy d = record { kind = side d; offset = record { 0 = d } }
 
--- "SYT 0xFFFF, SPH 1 or SID 63 gives none and 0"
-unfoldable pub givesNone : Cip → Bool
-givesNone cip = eqb (cip .«low_half») 0xFFFF || cip .sph || eqb (cip .sid) 63
+-- "SYT 0xFFFF, SPH 1 or SID 63 gives none and 0"; so does a frame without a CIP header (request #108)
+unfoldable pub givesNone : Fields → Bool
+givesNone f = not (cipIn f) || eqb (f .cip .«low_half») 0xFFFF || f .cip .sph || eqb (f .cip .sid) 63
 
 abbrev pub untimed : CycleTiming
 untimed = record { kind = None; offset = record { 0 = pos 0 } }
@@ -60,16 +60,16 @@ judgedAs timing = record { number = 0; timing = timing }
 abbrev pub refusedWith : ℕ → JudgementAnswer
 refusedWith n = record { number = n; timing = untimed }
 
--- an accepted frame, by its CIP header: none and 0 before 62
-unfoldable pub judged : Cip → Nanoseconds → JudgementAnswer
-judged cip L =
-    cond (givesNone cip) (judgedAs untimed)
-    (cond (offsetTooLarge (field 1 sytRow (cip .«low_half»))) (refusedWith 62)
-    (judgedAs (timedBy (cycleOffset (tickInSecond L) (dueTick (cip .«low_half»))))))
+-- an accepted frame: none and 0 before 62
+unfoldable pub judged : Fields → Nanoseconds → JudgementAnswer
+judged f L =
+    cond (givesNone f) (judgedAs untimed)
+    (cond (offsetTooLarge (field 1 sytRow (f .cip .«low_half»))) (refusedWith 62)
+    (judgedAs (timedBy (cycleOffset (tickInSecond L) (dueTick (f .cip .«low_half»))))))
 
 -- any bytes: the reader's numbers first
 unfoldable pub judgement : List ℕ → Nanoseconds → JudgementAnswer
-judgement frame L = ifAccepted (refusal frame) (judged (fieldsOf frame .cip) L) (refusedWith (refusal frame))
+judgement frame L = ifAccepted (refusal frame) (judged (fieldsOf frame) L) (refusedWith (refusal frame))
 
 -- what each case of the answer says
 abbrev pub judgementAnswer : Judgement → JudgementAnswer

@@ -1,8 +1,8 @@
-// A frame judged by its SYT (request #101): how far the cycle time that it carries lies from the one at which it arrived.
+// A frame judged by its SYT (requests #101 and #108): how far the cycle time that it carries lies from the one at which it arrived.
 use crate::Nanoseconds;
 use crate::Ticks;
 use frame::Reading;
-use frame::layout::Cip;
+use frame::layout::Fields;
 use refusal::Refusal;
 ghost use mathlib.Core.Path.{_≡_};
 ghost use Prim.Native.Nat.{_<_};
@@ -33,10 +33,14 @@ const WRAP: u64 = 49_152;
 
 const HALF_WRAP: u64 = 24_576;
 
-// Is there nothing to judge by: SYT 0xFFFF, SPH 1, or SID 63?
-fn gives_none(cip: Cip) -> bool
-    ensures { λ r. ⌜ r ≡ givesNone cip ⌝ }
+// Is there nothing to judge by: no CIP header, SYT 0xFFFF, SPH 1, or SID 63?
+fn gives_none(fields: Fields) -> bool
+    ensures { λ r. ⌜ r ≡ givesNone fields ⌝ }
 {
+    if fields.header.stream.tag != 1 {
+        return true;
+    }
+    let cip = fields.cip;
     if cip.low_half == 0xffff {
         return true;
     }
@@ -66,15 +70,16 @@ fn reckon(tick: Ticks, due: Ticks) -> CycleTiming
     }
 }
 
-fn judge_cip(cip: Cip, arrival_time: Nanoseconds) -> Judgement
-    ensures { λ r. ⌜ judgementAnswer r ≡ judged cip «arrival_time» ⌝ }
+fn judge_fields(fields: Fields, arrival_time: Nanoseconds) -> Judgement
+    ensures { λ r. ⌜ judgementAnswer r ≡ judged fields «arrival_time» ⌝ }
 {
-    if gives_none(cip) {
+    if gives_none(fields) {
         return Judgement::Judged(CycleTiming {
             kind: CycleKind::None,
             offset: TickOffset(0),
         });
     }
+    let cip = fields.cip;
     let cycle = (cip.low_half >> 12) as u64;
     let offset = (cip.low_half & 0xfff) as u64;
     if 3_071 < offset {
@@ -90,7 +95,7 @@ pub fn judge(frame: &[u8], arrival_time: Nanoseconds) -> Judgement
 {
     match frame::read(frame) {
         Reading::Refused(refusal) => Judgement::Refused(refusal),
-        Reading::Accepted(fields) => judge_cip(fields.cip, arrival_time),
+        Reading::Accepted(fields) => judge_fields(fields, arrival_time),
     }
 }
 

@@ -1,15 +1,18 @@
 -- The groups of a frame's checks, one after another, and what holds where none applies. Assumes nothing.
 use Prim.Native.Nat.{ℕ, zero, suc, _+_, _-_, _≤_, _<_}
 use mathlib.Core.Path.{_≡_, refl, sym, _∙_}
+use mathlib.Core.Bool.{Bool, true, false}
 use mathlib.Core.List.{List, _++_}
 use native.Mathlib.Omega.{arith}
 use borrow.Author.Tests.{ltb-false}
 use lib.Dec.{T}
 use Rattle.frame.specs.declared.layout.Stream.{Stream}
+use Rattle.frame.specs.declared.layout.Cip.{Cip}
 use Rattle.frame.specs.declared.layout.Header.{Header}
 use Rattle.frame.specs.declared.layout.Fields.{Fields}
+use Rattle.frame.specs.Layout.{hasCip, cipLength, fieldsOf}
 use Rattle.refusal.specs.Refusals.{firstOf}
-use Rattle.frame.specs.Checks.{quadlets, blockBytes, lengthChecks, ethernetChecks, avtpChecks, addressChecks, streamChecks, blockChecks, headerChecks, readChecks, frameChecks}
+use Rattle.frame.specs.Checks.{quadlets, blockBytes, lengthChecks, ethernetChecks, avtpChecks, addressChecks, streamChecks, blockChecks, cipChecks, headerChecks, askedIf, readChecks, frameChecks}
 use Rattle.refusal.proofs.First.{numbered, clear, orElse, then, both}
 
 pub header-then : (n : ℕ) (h : Header) → firstOf (headerChecks n h) ≡
@@ -18,39 +21,52 @@ unfolding headerChecks ethernetChecks avtpChecks addressChecks
 header-then n h = then (ethernetChecks (h .ethernet)) _ tt ∙ rw (then (avtpChecks (h .avtp)) (addressChecks (h .ethernet) ++ streamChecks n (h .stream)) tt, then (addressChecks (h .ethernet)) (streamChecks n (h .stream)) tt) refl
 
 pub read-then : (n : ℕ) (f : Fields) → firstOf (readChecks n f) ≡
-    orElse (firstOf (lengthChecks n)) (orElse (firstOf (headerChecks n (f .header))) (firstOf (blockChecks (f .header .stream) (f .cip))))
+    orElse (firstOf (lengthChecks n)) (orElse (firstOf (headerChecks n (f .header))) (firstOf (askedIf (hasCip (f .header .stream .tag)) (cipChecks (f .header .stream) (f .cip)))))
 unfolding readChecks lengthChecks headerChecks ethernetChecks avtpChecks addressChecks streamChecks
-read-then n f = then (lengthChecks n) _ tt ∙ rw (then (headerChecks n (f .header)) (blockChecks (f .header .stream) (f .cip)) tt) refl
+read-then n f = then (lengthChecks n) _ tt ∙ rw (then (headerChecks n (f .header)) (askedIf (hasCip (f .header .stream .tag)) (cipChecks (f .header .stream) (f .cip))) tt) refl
 
 -- no check of a frame answers 0
+cip-numbered : (has : Bool) (s : Stream) (c : Cip) → T (numbered (askedIf has (cipChecks s c)))
+unfolding cipChecks blockChecks
+cip-numbered true s c = tt
+cip-numbered false s c = tt
+
 pub frame-numbered : (frame : List ℕ) → T (numbered (frameChecks frame))
-unfolding frameChecks readChecks lengthChecks headerChecks ethernetChecks avtpChecks addressChecks streamChecks blockChecks
-frame-numbered frame = tt
+unfolding frameChecks readChecks lengthChecks headerChecks ethernetChecks avtpChecks addressChecks streamChecks
+frame-numbered frame = let f = fieldsOf frame in cip-numbered (hasCip (f .header .stream .tag)) (f .header .stream) (f .cip)
 
 pub long-enough : (n : ℕ) → firstOf (lengthChecks n) ≡ 0 → 42 ≤ n
 unfolding lengthChecks
 long-enough n e = ltb-false n 42 (clear (lengthChecks n) tt e .0)
 
-stream-room : (n : ℕ) (s : Stream) → 42 ≤ n → firstOf (streamChecks n s) ≡ 0 → (8 ≤ s .«data_length») × (s .«data_length» + 42 ≤ n)
+stream-room : (n : ℕ) (s : Stream) → 42 ≤ n → firstOf (streamChecks n s) ≡ 0 → s .«data_length» + 42 ≤ n
 unfolding streamChecks
 stream-room n s h e =
     let f = clear (streamChecks n s) tt e in
     let p : s .«data_length» ≤ n - 42 = ltb-false _ _ (f .0) in
-    let q : 8 ≤ s .«data_length» = ltb-false _ _ (f .1 .1 .0) in
     omega arith
 
+-- the CIP header, where there is one, is within the data
+cip-room : (has : Bool) (s : Stream) (c : Cip) → firstOf (askedIf has (cipChecks s c)) ≡ 0 → cipLength has ≤ s .«data_length»
+unfolding cipChecks blockChecks
+cip-room true s c e = ltb-false _ _ (clear (cipChecks s c) tt e .0)
+cip-room false s c e = omega arith
+
 -- past the checks of the header its data fits the frame
-pub header-room : (n : ℕ) (h : Header) → 42 ≤ n → firstOf (headerChecks n h) ≡ 0 → (8 ≤ h .stream .«data_length») × (h .stream .«data_length» + 42 ≤ n)
+pub header-room : (n : ℕ) (h : Header) → 42 ≤ n → firstOf (headerChecks n h) ≡ 0 → h .stream .«data_length» + 42 ≤ n
 header-room n h l e =
     let p = both _ _ (sym (header-then n h) ∙ e) in
     let q = both _ _ (p .1) in
     stream-room n (h .stream) l (both _ _ (q .1) .1)
 
 -- and so does the data of an accepted frame
-pub accepted-room : (n : ℕ) (f : Fields) → firstOf (readChecks n f) ≡ 0 → (8 ≤ f .header .stream .«data_length») × (f .header .stream .«data_length» + 42 ≤ n)
+pub accepted-room : (n : ℕ) (f : Fields) → firstOf (readChecks n f) ≡ 0 → (cipLength (hasCip (f .header .stream .tag)) ≤ f .header .stream .«data_length») × (f .header .stream .«data_length» + 42 ≤ n)
 accepted-room n f e =
     let p = both _ _ (sym (read-then n f) ∙ e) in
-    header-room n (f .header) (long-enough n (p .0)) (both _ _ (p .1) .0)
+    let q = both _ _ (p .1) in (
+      cip-room (hasCip (f .header .stream .tag)) (f .header .stream) (f .cip) (q .1),
+      header-room n (f .header) (long-enough n (p .0)) (q .0),
+    )
 
 -- ---- blocks
 

@@ -2,7 +2,8 @@
 use Prim.Native.Nat.{ℕ, zero, suc, _+_, _-_, _*_, _/_, _%_, _^_, _<_, _≤_}
 use mathlib.Core.Path.{_≡_, refl, sym, ap, _∙_}
 use mathlib.Core.Logic.{⊎-elim}
-use mathlib.Core.List.{List, [], _∷_}
+use mathlib.Core.Bool.{Bool, true, false, cond}
+use mathlib.Core.List.{List, [], _∷_, _++_}
 use native.Mathlib.Nat.{mod-eq-of-lt, mod-lt}
 use native.Mathlib.Omega.{arith}
 use borrow.Author.Tests.{le-ltb}
@@ -12,12 +13,13 @@ use lib.Pow.{pow-pos}
 use lib.Seq.{getD-drop}
 use Rattle.wire.specs.Bits.{bits, flag}
 use Rattle.wire.specs.Numbers.{part, number, numberAt, Bytes}
-use Rattle.frame.specs.Layout.{ethernetOf, avtpOf, streamOf, headerOf, cipOf, fieldsOf}
+use Rattle.frame.specs.Layout.{hasCip, ethernetOf, avtpOf, streamOf, headerOf, cipOf, cipIf, fieldsOf, cipIn}
+use Rattle.frame.specs.declared.layout.Header.{Header}
 use Rattle.frame.specs.declared.layout.Fields.{Fields}
 use Rattle.refusal.specs.Refusals.{firstOf, ifAccepted}
 use Rattle.frame.specs.Checks.{lengthChecks, streamChecks, headerChecks, readChecks, frameChecks, refusal}
-use Rattle.frame.specs.Reading.{reading, payloadOf}
-use Rattle.frame.specs.Ignored.{regarded, through, Alike, IgnoredBits}
+use Rattle.frame.specs.Reading.{reading, payloadPart, payloadOf}
+use Rattle.frame.specs.Ignored.{regardedHeader, regardedCip, regarded, through, Alike, IgnoredBits}
 
 -- ---- masks
 
@@ -122,74 +124,85 @@ two-bytes (p ∷ p′ ∷ []) (q ∷ q′ ∷ []) hx hy lx ly t =
 two-bytes (p ∷ p′ ∷ []) (q ∷ q′ ∷ q″ ∷ y) hx hy lx ly t = absurd (omega arith)
 two-bytes (p ∷ p′ ∷ p″ ∷ x) (q ∷ q′ ∷ y) hx hy lx ly t = absurd (omega arith)
 
-module _ (a b : List ℕ) (ha : Bytes a) (hb : Bytes b) (same : through regarded a ≡ through regarded b) where
-  part-masked : (at k : ℕ) → through (part at k regarded) (part at k a) ≡ through (part at k regarded) (part at k b)
-  part-masked at k = sym (part-through at k regarded a) ∙ ap (part at k) same ∙ part-through at k regarded b
+module _ (a b : List ℕ) (ha : Bytes a) (hb : Bytes b) (ms : List ℕ) (same : through ms a ≡ through ms b) where
+  part-masked : (at k : ℕ) → through (part at k ms) (part at k a) ≡ through (part at k ms) (part at k b)
+  part-masked at k = sym (part-through at k ms a) ∙ ap (part at k) same ∙ part-through at k ms b
 
   -- bytes of which every bit is regarded
-  part-same : (at k : ℕ) → part at k regarded ≡ replicate k 255 → part at k a ≡ part at k b
+  part-same : (at k : ℕ) → part at k ms ≡ replicate k 255 → part at k a ≡ part at k b
   part-same at k e =
       sym (through-all k (part at k a) (part-bytes at k a ha) (part-short at k a))
       ∙ (rw e at (part-masked at k))
       ∙ through-all k (part at k b) (part-bytes at k b hb) (part-short at k b)
 
   -- a field of one byte of which every bit is regarded
-  field-same : (at s w m : ℕ) → part at 1 regarded ≡ m ∷ [] → bits s w m ≡ 2 ^ w - 1 → bits s w (numberAt at 1 a) ≡ bits s w (numberAt at 1 b)
+  field-same : (at s w m : ℕ) → part at 1 ms ≡ m ∷ [] → bits s w m ≡ 2 ^ w - 1 → bits s w (numberAt at 1 a) ≡ bits s w (numberAt at 1 b)
   field-same at s w m r e = one-byte s w m e (part at 1 a) (part at 1 b) (part-short at 1 a) (part-short at 1 b) (rw r at (part-masked at 1))
 
-  number-same : (at k : ℕ) → part at k regarded ≡ replicate k 255 → numberAt at k a ≡ numberAt at k b
+  number-same : (at k : ℕ) → part at k ms ≡ replicate k 255 → numberAt at k a ≡ numberAt at k b
   number-same at k e = ap number (part-same at k e)
 
-  fields-same : fieldsOf a ≡ fieldsOf b
-  unfolding fieldsOf headerOf ethernetOf avtpOf streamOf cipOf
-  fields-same =
-      let vlan = number-same 14 2 refl in
-      let first = number-same 18 1 refl in
-      let packet = two-bytes (part 40 2 a) (part 40 2 b) (part-bytes 40 2 a ha) (part-bytes 40 2 b hb) (part-short 40 2 a) (part-short 40 2 b) (part-masked 40 2) in
+module _ (a b : List ℕ) (ha : Bytes a) (hb : Bytes b) where
+  -- the header that every frame has, whatever masks come after its own
+  header-same : (rest : List ℕ) → through (regardedHeader ++ rest) a ≡ through (regardedHeader ++ rest) b → headerOf a ≡ headerOf b
+  unfolding headerOf ethernetOf avtpOf streamOf
+  header-same rest same =
+      let ms = regardedHeader ++ rest in
+      let whole = number-same a b ha hb ms same in
+      let some = field-same a b ha hb ms same in
+      let vlan = whole 14 2 refl in
+      let first = whole 18 1 refl in
+      let packet = two-bytes (part 40 2 a) (part 40 2 b) (part-bytes 40 2 a ha) (part-bytes 40 2 b hb) (part-short 40 2 a) (part-short 40 2 b) (part-masked a b ha hb ms same 40 2) in
       λ i. record {
-        header = record {
-          ethernet = record {
-            destination = number-same 0 6 refl i;
-            source = number-same 6 6 refl i;
-            tpid = number-same 12 2 refl i;
-            pcp = bits 13 3 (vlan i);
-            cfi = flag (bits 12 1 (vlan i));
-            vid = bits 0 12 (vlan i);
-            ethertype = number-same 16 2 refl i;
-          };
-          avtp = record {
-            cd = flag (bits 7 1 (first i));
-            subtype = bits 0 7 (first i);
-            sv = flag (field-same 19 7 1 0xFB refl refl i);
-            version = field-same 19 4 3 0xFB refl refl i;
-            mr = flag (field-same 19 3 1 0xFB refl refl i);
-            gv = flag (field-same 19 1 1 0xFB refl refl i);
-            tv = flag (field-same 19 0 1 0xFB refl refl i);
-            sequence = number-same 20 1 refl i;
-            tu = flag (field-same 21 0 1 0x01 refl refl i);
-          };
-          stream = record {
-            id = number-same 22 8 refl i;
-            timestamp = number-same 30 4 refl i;
-            «gateway_info» = number-same 34 4 refl i;
-            «data_length» = number-same 38 2 refl i;
-            tag = packet .tag i;
-            channel = packet .channel i;
-            sy = packet .sy i;
-          };
+        ethernet = record {
+          destination = whole 0 6 refl i;
+          source = whole 6 6 refl i;
+          tpid = whole 12 2 refl i;
+          pcp = bits 13 3 (vlan i);
+          cfi = flag (bits 12 1 (vlan i));
+          vid = bits 0 12 (vlan i);
+          ethertype = whole 16 2 refl i;
         };
-        cip = record {
-          sid = field-same 42 0 6 0x3F refl refl i;
-          dbs = number-same 43 1 refl i;
-          «fraction_number» = field-same 44 6 2 0xFC refl refl i;
-          qpc = field-same 44 3 3 0xFC refl refl i;
-          sph = flag (field-same 44 2 1 0xFC refl refl i);
-          dbc = number-same 45 1 refl i;
-          fmt = field-same 46 0 6 0x3F refl refl i;
-          fdf = number-same 47 1 refl i;
-          «low_half» = number-same 48 2 refl i;
+        avtp = record {
+          cd = flag (bits 7 1 (first i));
+          subtype = bits 0 7 (first i);
+          sv = flag (some 19 7 1 0xFB refl refl i);
+          version = some 19 4 3 0xFB refl refl i;
+          mr = flag (some 19 3 1 0xFB refl refl i);
+          gv = flag (some 19 1 1 0xFB refl refl i);
+          tv = flag (some 19 0 1 0xFB refl refl i);
+          sequence = whole 20 1 refl i;
+          tu = flag (some 21 0 1 0x01 refl refl i);
+        };
+        stream = record {
+          id = whole 22 8 refl i;
+          timestamp = whole 30 4 refl i;
+          «gateway_info» = whole 34 4 refl i;
+          «data_length» = whole 38 2 refl i;
+          tag = packet .tag i;
+          channel = packet .channel i;
+          sy = packet .sy i;
         };
       }
+
+  -- the CIP header, if there is one
+  cip-same : (has : Bool) → through (regarded has) a ≡ through (regarded has) b → cipIf has a ≡ cipIf has b
+  unfolding cipOf
+  cip-same true same =
+      let whole = number-same a b ha hb (regarded true) same in
+      let some = field-same a b ha hb (regarded true) same in
+      λ i. record {
+        sid = some 42 0 6 0x3F refl refl i;
+        dbs = whole 43 1 refl i;
+        «fraction_number» = some 44 6 2 0xFC refl refl i;
+        qpc = some 44 3 3 0xFC refl refl i;
+        sph = flag (some 44 2 1 0xFC refl refl i);
+        dbc = whole 45 1 refl i;
+        fmt = some 46 0 6 0x3F refl refl i;
+        fdf = whole 47 1 refl i;
+        «low_half» = whole 48 2 refl i;
+      }
+  cip-same false same = refl
 
 -- ---- the answer
 
@@ -208,11 +221,20 @@ fitting n m f hn kn hm km =
     )
 
 module _ (a b : List ℕ) (ha : Bytes a) (hb : Bytes b) (alike : Alike a b) where
+  headers : headerOf a ≡ headerOf b
+  headers = header-same a b ha hb (cond (cipIn (fieldsOf a)) regardedCip []) (alike .header)
+
+  fields-same : fieldsOf a ≡ fieldsOf b
+  unfolding fieldsOf headerOf streamOf
+  fields-same =
+      let cips = cip-same a b ha hb (cipIn (fieldsOf a)) (alike .header) ∙ ap (λ (h : Header). cipIf (hasCip (h .stream .tag)) b) headers in
+      λ i. record { header = headers i; cip = cips i }
+
   refusal-same : refusal a ≡ refusal b
   unfolding refusal frameChecks fieldsOf headerOf streamOf
   refusal-same =
-      let f : fieldsOf a ≡ fieldsOf b = fields-same a b ha hb (alike .header) in
-      let k : numberAt 38 2 a ≡ numberAt 38 2 b = number-same a b ha hb (alike .header) 38 2 refl in
+      let f : fieldsOf a ≡ fieldsOf b = fields-same in
+      let k : numberAt 38 2 a ≡ numberAt 38 2 b = ap (λ (h : Header). h .stream .«data_length») headers in
       ⊎-elim
       (λ l. rw f (ap (λ (n : ℕ). firstOf (readChecks n (fieldsOf b))) l))
       (λ w. rw f (ap firstOf (fitting (length a) (length b) (fieldsOf b) (w .0 .0) (rw (← k) (w .0 .1)) (w .1 .0) (w .1 .1))))
@@ -220,13 +242,12 @@ module _ (a b : List ℕ) (ha : Bytes a) (hb : Bytes b) (alike : Alike a b) wher
 
   reading-same : reading a ≡ reading b
   unfolding reading
-  reading-same = rw (refusal-same, fields-same a b ha hb (alike .header))
+  reading-same = rw (refusal-same, fields-same)
 
   payload-same : payloadOf a ≡ payloadOf b
   unfolding payloadOf fieldsOf headerOf streamOf
   payload-same =
-      let same : part 50 (numberAt 38 2 a - 8) a ≡ part 50 (numberAt 38 2 b - 8) b =
-      alike .payload ∙ ap (λ (k : ℕ). part 50 (k - 8) b) (number-same a b ha hb (alike .header) 38 2 refl) in
+      let same = alike .payload ∙ ap (λ (h : Header). payloadPart (hasCip (h .stream .tag)) (h .stream .«data_length») b) headers in
       rw (refusal-same) (ap (λ (p : List ℕ). ifAccepted (refusal b) p []) same)
 
 pub ignored-bits : IgnoredBits

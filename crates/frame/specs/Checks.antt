@@ -1,6 +1,6 @@
--- The checks of a received frame, in their order (document 01, Numbers answered; request #105).
+-- The checks of a received frame, in their order (document 01, Numbers answered; requests #105 and #108).
 use Prim.Native.Nat.{ℕ, zero, suc, _-_, _*_, _%_}
-use mathlib.Core.Bool.{Bool, not, _||_}
+use mathlib.Core.Bool.{Bool, not, _||_, cond}
 use mathlib.Core.List.{List, [], _∷_, _++_}
 use lib.ListN.{length}
 use lib.Dec.{ltb}
@@ -11,7 +11,7 @@ use Rattle.frame.specs.declared.layout.Stream.{Stream}
 use Rattle.frame.specs.declared.layout.Cip.{Cip}
 use Rattle.frame.specs.declared.layout.Header.{Header}
 use Rattle.frame.specs.declared.layout.Fields.{Fields}
-use Rattle.frame.specs.Layout.{fieldsOf}
+use Rattle.frame.specs.Layout.{fieldsOf, cipIn}
 use Rattle.refusal.specs.Refusals.{Check, _answers_, firstOf, differs}
 
 -- a group address: the lowest bit of the first of its six bytes is 1
@@ -65,16 +65,18 @@ addressChecks e =
 unfoldable pub streamChecks : ℕ → Stream → List Check
 streamChecks n s =
     ltb (n - 42) (s .«data_length») answers 11
-    ∷ differs (s .tag) 1 answers 12
-    ∷ ltb (s .«data_length») 8 answers 13
+    ∷ ltb 1 (s .tag) answers 12
     ∷ []
 
--- 16 comes after 13 and before 14
 unfoldable pub blockChecks : Stream → Cip → List Check
 blockChecks s c =
     differs (c .qpc) 0 answers 16
     ∷ partialBlock (s .«data_length» - 8) (c .dbs) answers 14
     ∷ []
+
+-- what is asked of a frame with a CIP header: 13, and 16 before 14
+unfoldable pub cipChecks : Stream → Cip → List Check
+cipChecks s c = ltb (s .«data_length») 8 answers 13 ∷ blockChecks s c
 
 unfoldable pub headerChecks : ℕ → Header → List Check
 headerChecks n h =
@@ -83,8 +85,15 @@ headerChecks n h =
     ++ addressChecks (h .ethernet)
     ++ streamChecks n (h .stream)
 
+abbrev pub askedIf : Bool → List Check → List Check
+askedIf b checks = cond b checks []
+
+-- 13, 16 and 14 "are asked for tag 1 only"
 unfoldable pub readChecks : ℕ → Fields → List Check
-readChecks n f = lengthChecks n ++ headerChecks n (f .header) ++ blockChecks (f .header .stream) (f .cip)
+readChecks n f =
+    lengthChecks n
+    ++ headerChecks n (f .header)
+    ++ askedIf (cipIn f) (cipChecks (f .header .stream) (f .cip))
 
 unfoldable pub frameChecks : List ℕ → List Check
 frameChecks frame = readChecks (length frame) (fieldsOf frame)

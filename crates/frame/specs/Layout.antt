@@ -1,7 +1,9 @@
 -- Where each field of a frame stands (document 01, Frame layout; IEEE 1722-2011, clauses 5 and 6; IEC 61883-1).
 -- The reader takes the fields out by these rows, and the writer puts them in by the same rows.
-use Prim.Native.Nat.{ℕ}
+use Prim.Native.Nat.{ℕ, _+_}
+use mathlib.Core.Bool.{Bool, true, false, cond}
 use mathlib.Core.List.{List, [], _∷_}
+use lib.Dec.{eqb}
 use Rattle.wire.specs.Bits.{field, flag}
 use Rattle.wire.specs.Numbers.{numberAt}
 use Rattle.frame.specs.declared.layout.Ethernet.{Ethernet}
@@ -88,6 +90,21 @@ streamOf bs =
       sy = field 3 packetRow (numberAt 40 2 bs);
     }
 
+-- the first 42 bytes, whatever the stream carries
+unfoldable pub headerOf : List ℕ → Header
+headerOf bs = record { ethernet = ethernetOf bs; avtp = avtpOf bs; stream = streamOf bs }
+
+-- tag 1 alone says that a CIP header follows; with tag 0 there is none (request #108)
+abbrev pub hasCip : ℕ → Bool
+hasCip tag = eqb tag 1
+
+-- a CIP header has 8 bytes, and the payload starts behind it or, where there is none, at byte 42
+abbrev pub cipLength : Bool → ℕ
+cipLength has = cond has 8 0
+
+abbrev pub payloadStart : Bool → ℕ
+payloadStart has = 42 + cipLength has
+
 -- bytes 42 to 49: the CIP header
 unfoldable pub cipOf : List ℕ → Cip
 cipOf bs =
@@ -103,8 +120,17 @@ cipOf bs =
       «low_half» = numberAt 48 2 bs;
     }
 
-unfoldable pub headerOf : List ℕ → Header
-headerOf bs = record { ethernet = ethernetOf bs; avtp = avtpOf bs; stream = streamOf bs }
+-- where there is none, "its fields read as 0"; SPH too, so that a presentation time goes by the AVTP timestamp
+unfoldable pub noCip : Cip
+noCip = record { sid = 0; dbs = 0; «fraction_number» = 0; qpc = 0; sph = false; dbc = 0; fmt = 0; fdf = 0; «low_half» = 0 }
+
+abbrev pub cipIf : Bool → List ℕ → Cip
+cipIf true bs = cipOf bs
+cipIf false bs = noCip
 
 unfoldable pub fieldsOf : List ℕ → Fields
-fieldsOf bs = record { header = headerOf bs; cip = cipOf bs }
+fieldsOf bs = record { header = headerOf bs; cip = cipIf (hasCip (headerOf bs .stream .tag)) bs }
+
+-- whether fields are those of a frame with a CIP header
+abbrev pub cipIn : Fields → Bool
+cipIn f = hasCip (f .header .stream .tag)

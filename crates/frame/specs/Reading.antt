@@ -1,7 +1,7 @@
--- What is answered to a frame: its fields and its payload, or a number (document 01, Frame layout and Numbers answered).
+-- What is answered to a frame: its fields and its payload, or a number (document 01, Frame layout and Numbers answered; request #108).
 use Prim.Native.Nat.{ℕ, _+_, _-_, _/_, _≤_}
 use mathlib.Core.Path.{_≡_}
-use mathlib.Core.Bool.{false, _||_, cond}
+use mathlib.Core.Bool.{Bool, false, _||_, cond}
 use mathlib.Core.List.{List, []}
 use lib.Dec.{ltb}
 use lib.ListN.{length}
@@ -9,7 +9,7 @@ use Rattle.wire.specs.Numbers.{part}
 use Rattle.frame.specs.declared.layout.Fields.{Fields}
 use Rattle.frame.specs.declared.Reading.{Reading}
 use Rattle.frame.specs.declared.Reading.the-variants.{Accepted, Refused}
-use Rattle.frame.specs.Layout.{fieldsOf}
+use Rattle.frame.specs.Layout.{hasCip, cipLength, payloadStart, noCip, fieldsOf, cipIn}
 use Rattle.refusal.specs.Refusals.{numberOf, ifAccepted}
 use Rattle.frame.specs.Checks.{blockBytes, refusal}
 
@@ -27,7 +27,7 @@ noFields =
         avtp = record { cd = false; subtype = 0; sv = false; version = 0; mr = false; gv = false; tv = false; sequence = 0; tu = false };
         stream = record { id = 0; timestamp = 0; «gateway_info» = 0; «data_length» = 0; tag = 0; channel = 0; sy = 0 };
       };
-      cip = record { sid = 0; dbs = 0; «fraction_number» = 0; qpc = 0; sph = false; dbc = 0; fmt = 0; fdf = 0; «low_half» = 0 };
+      cip = noCip;
     }
 
 -- what is answered by a number: every other field of a refused answer is zero or no
@@ -43,24 +43,36 @@ abbrev pub readAnswer : Reading → ReadAnswer
 readAnswer (Accepted f) = record { number = 0; fields = f }
 readAnswer (Refused r) = record { number = numberOf r; fields = noFields }
 
--- the part of the frame that starts at byte 50 and is stream_data_length − 8 bytes long; no byte of a refused frame
-unfoldable pub payloadOf : List ℕ → List ℕ
-payloadOf frame = ifAccepted (refusal frame) (part 50 (fieldsOf frame .header .stream .«data_length» - 8) frame) []
+-- what a stream_data_length of n leaves to the payload: the part of the frame that starts at byte 50 and is n − 8 bytes long, behind a CIP
+-- header, and all n bytes from byte 42 where there is none
+abbrev pub payloadPart : Bool → ℕ → List ℕ → List ℕ
+payloadPart has n frame = part (payloadStart has) (n - cipLength has) frame
 
--- the same part by a stream_data_length that is known already; nothing where the frame has no such part
-unfoldable pub dataOf : List ℕ → ℕ → List ℕ
-dataOf frame n = cond (ltb n 8 || ltb (length frame) (42 + n)) [] (part 50 (n - 8) frame)
+-- no byte of a refused frame
+unfoldable pub payloadOf : List ℕ → List ℕ
+payloadOf frame =
+    let f = fieldsOf frame in
+    ifAccepted (refusal frame) (payloadPart (cipIn f) (f .header .stream .«data_length») frame) []
+
+-- the same part by a tag and a stream_data_length that are known already; nothing where the frame has no such part
+unfoldable pub dataOf : List ℕ → ℕ → ℕ → List ℕ
+dataOf frame tag n = cond (ltb n (cipLength (hasCip tag)) || ltb (length frame) (42 + n)) [] (payloadPart (hasCip tag) n frame)
 
 -- the frame has such a part
-abbrev pub DataThere : List ℕ → ℕ → Type 0
-DataThere frame n = (8 ≤ n) × (42 + n ≤ length frame)
+abbrev pub DataThere : List ℕ → ℕ → ℕ → Type 0
+DataThere frame tag n = (cipLength (hasCip tag) ≤ n) × (42 + n ≤ length frame)
 
 -- of an accepted frame it is the payload
 abbrev pub DataIsPayload : Type 0
 DataIsPayload =
     (frame : List ℕ) → refusal frame ≡ 0
-    → (let n = fieldsOf frame .header .stream .«data_length» in DataThere frame n × (dataOf frame n ≡ payloadOf frame))
+    → (let s = fieldsOf frame .header .stream in
+    DataThere frame (s .tag) (s .«data_length») × (dataOf frame (s .tag) (s .«data_length») ≡ payloadOf frame))
 
--- the whole blocks of a payload
+-- the whole blocks of a payload behind a CIP header
 unfoldable pub blocksOf : List ℕ → ℕ → ℕ
 blocksOf payload dbs = length payload / blockBytes dbs
+
+-- those of a frame with this tag: without a CIP header there are none, however long the payload is
+unfoldable pub blocksWith : ℕ → List ℕ → ℕ → ℕ
+blocksWith tag payload dbs = cond (hasCip tag) (blocksOf payload dbs) 0

@@ -80,11 +80,8 @@ fn check_stream(n: usize, s: Stream) -> Verdict
     if n - 42 < data_length as usize {
         return Verdict::Refused(Refusal::DataBeyondFrame);
     }
-    if s.tag != 1 {
+    if 1 < s.tag {
         return Verdict::Refused(Refusal::WrongTag);
-    }
-    if data_length < 8 {
-        return Verdict::Refused(Refusal::NoCipHeader);
     }
     Verdict::Passed
 }

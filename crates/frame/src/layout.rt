@@ -2,7 +2,7 @@
 ghost use mathlib.Core.Path.{_≡_};
 ghost use Prim.Native.Nat.{_≤_};
 ghost use lib.ListN.{length};
-ghost use Rattle.frame.specs.Layout.{ethernetOf, avtpOf, streamOf, headerOf, cipOf};
+ghost use Rattle.frame.specs.Layout.{ethernetOf, avtpOf, streamOf, headerOf, cipOf, noCip};
 
 // Bytes 0 to 17: the Ethernet header with its VLAN tag. Addresses are 48-bit numbers.
 pub struct Ethernet {
@@ -33,14 +33,15 @@ pub struct Stream {
     pub id: u64,
     pub timestamp: u32,
     pub gateway_info: u32,
-    // stream_data_length: the CIP header and the payload
+    // stream_data_length: the CIP header, where there is one, and the payload
     pub data_length: u16,
+    // 1 where a CIP header follows, 0 where there is none
     pub tag: u8,
     pub channel: u8,
     pub sy: u8,
 }
 
-// Bytes 42 to 49: the CIP header.
+// Bytes 42 to 49: the CIP header. Every field is 0 or no where there is none.
 pub struct Cip {
     pub sid: u8,
     pub dbs: u8,
@@ -144,5 +145,21 @@ pub(crate) fn read_cip(frame: &[u8]) -> Cip
         fmt: wire::byte(frame, 46) & 0x3f,
         fdf: wire::byte(frame, 47),
         low_half: wire::be16(frame, 48),
+    }
+}
+
+pub(crate) fn no_cip() -> Cip
+    ensures { λ r. ⌜ r ≡ noCip ⌝ }
+{
+    Cip {
+        sid: 0,
+        dbs: 0,
+        fraction_number: 0,
+        qpc: 0,
+        sph: false,
+        dbc: 0,
+        fmt: 0,
+        fdf: 0,
+        low_half: 0,
     }
 }

@@ -1,6 +1,6 @@
 // Reads frames from standard input, each a line of hexadecimal digits, and prints what each is answered: `refused` and document 01's
-// number, or `accepted` and every field, its payload's length, its blocks and the payload's first four bytes. A line that starts
-// with `#` is printed as it stands.
+// number, or `accepted` and every field, its payload's length, its blocks and the payload's first four bytes, 0 where it has
+// fewer. A line that starts with `#` is printed as it stands.
 use frame::Reading;
 use frame::layout::Avtp;
 use frame::layout::Cip;
@@ -72,9 +72,9 @@ fn show_cip(c: Cip) {
     hex(b" low_half=", c.low_half as u64, 4);
 }
 
-fn show_payload(payload: &[u8], dbs: u8) {
+fn show_payload(tag: u8, payload: &[u8], dbs: u8) {
     number(b" payload=", payload.len() as u64);
-    number(b" blocks=", frame::blocks(payload, dbs) as u64);
+    number(b" blocks=", frame::blocks(tag, payload, dbs) as u64);
     hex(b" first=", wire::be32(payload, 0) as u64, 8);
 }
 
@@ -90,7 +90,7 @@ fn show(bytes: &[u8]) {
             show_avtp(h.avtp);
             show_stream(h.stream);
             show_cip(f.cip);
-            show_payload(frame::payload(bytes), f.cip.dbs);
+            show_payload(h.stream.tag, frame::payload(bytes), f.cip.dbs);
         }
     }
     text(b"\n");

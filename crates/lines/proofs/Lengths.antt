@@ -7,21 +7,26 @@ use lib.ListN.{length, length-append}
 use Rattle.presentation.specs.declared.Kind.{Kind}
 use Rattle.presentation.specs.declared.Kind.the-variants.{None, Cut, Outside, Late, Ahead, Unclear, Far}
 use Rattle.presentation.specs.declared.Timing.{Timing}
+use Rattle.frame.specs.Layout.{hasCip}
 use Rattle.stream.specs.declared.Flags.{Flags}
 use Rattle.text.specs.Text.{ascii, decimal, signed}
 use Rattle.text.proofs.Decimals.{decimal-length}
-use Rattle.lines.specs.Lines.{endLine, ending, nextNumber, refused, frame, flagWord, flagsText, kindWord, timingText, lineText}
+use Rattle.lines.specs.Lines.{endLine, ending, nextNumber, refused, frame, flagWord, blockWord, flagsText, kindWord, timingText, lineText}
 use Rattle.lines.specs.Placing.{lineRoom}
 
 flag-length : (raised : Bool) (word : List ℕ) → 2 ≤ length word → length (flagWord raised word) ≤ length word
 flag-length true word h = omega arith
 flag-length false word h = h
 
-flags-length : (f : Flags) → length (flagsText f) ≤ 47
+block-length : (has raised : Bool) → length (blockWord has raised) ≤ 5
+block-length true raised = flag-length raised (ascii "break") (omega arith)
+block-length false raised = omega arith
+
+flags-length : (tag : ℕ) (f : Flags) → length (flagsText tag f) ≤ 47
 unfolding flagsText
-flags-length f =
+flags-length tag f =
     let a = flag-length (f .sequence) (ascii "break") (omega arith) in
-    let b = flag-length (f .block) (ascii "break") (omega arith) in
+    let b = block-length (hasCip tag) (f .block) in
     let c = flag-length (f .format) (ascii "change") (omega arith) in
     let d = flag-length (f .mr) (ascii "change") (omega arith) in
     simp length-append (omega arith)
@@ -44,11 +49,11 @@ module _ (n : ℕ) (wide : n < 2 ^ 64) where
   pub numbered-length : (rest : List ℕ) → length (decimal n ++ rest) ≤ 20 + length rest
   numbered-length rest = let l = decimal-length n wide in simp length-append (omega arith)
 
-  pub frame-length : (f : Flags) (t : Timing) → length (timingText t) ≤ 43 → length (lineText n (frame f t)) ≤ 110
+  pub frame-length : (tag : ℕ) (f : Flags) (t : Timing) → length (timingText t) ≤ 43 → length (lineText n (frame tag f t)) ≤ 110
   unfolding lineText
-  frame-length f t h =
+  frame-length tag f t h =
       let l = decimal-length n wide in
-      let g = flags-length f in
+      let g = flags-length tag f in
       simp length-append (omega arith)
 
   pub refused-length : (number : ℕ) → number < 2 ^ 64 → length (lineText n (refused number)) ≤ 50

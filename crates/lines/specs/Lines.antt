@@ -1,8 +1,10 @@
--- The lines of a listing (document 01, Capture and listing; request #106 for `unclear`, request #107 for `far`). Each ends in a line feed.
+-- The lines of a listing (document 01, Capture and listing; request #106 for `unclear`, request #107 for `far`, request #108 for `dbc=none`).
+-- Each ends in a line feed.
 use Prim.Native.Nat.{ℕ, _+_, _%_, _^_}
 use mathlib.Core.Bool.{Bool, true, false}
 use mathlib.Core.List.{List, _++_}
 use Rattle.refusal.specs.Refusals.{numberOf}
+use Rattle.frame.specs.Layout.{hasCip}
 use Rattle.presentation.specs.declared.Kind.{Kind}
 use Rattle.presentation.specs.declared.Kind.the-variants.{None, Cut, Outside, Late, Ahead, Unclear, Far}
 use Rattle.presentation.specs.declared.Timing.{Timing}
@@ -26,24 +28,30 @@ pub data Line : Type 0 where
   admitted : Line
   removed : Line
   refused : ℕ → Line
-  frame : Flags → Timing → Line
+  -- an accepted frame: its tag, flags and time
+  frame : ℕ → Flags → Timing → Line
 
 abbrev pub lineOf : Outcome → Line
 lineOf Admitted = admitted
 lineOf Removed = removed
 lineOf (Refused r) = refused (numberOf r)
-lineOf (Frame flags timing) = frame flags timing
+lineOf (Frame tag flags timing) = frame tag flags timing
 
 -- a raised flag prints its word
 abbrev pub flagWord : Bool → List ℕ → List ℕ
 flagWord true word = word
 flagWord false word = ascii "ok"
 
+-- without a CIP header no block count is judged
+abbrev pub blockWord : Bool → Bool → List ℕ
+blockWord true raised = flagWord raised (ascii "break")
+blockWord false raised = ascii "none"
+
 -- `break` for seq and dbc, `change` for fmt and mr
-unfoldable pub flagsText : Flags → List ℕ
-flagsText f =
+unfoldable pub flagsText : ℕ → Flags → List ℕ
+flagsText tag f =
     (ascii " frame seq=" ++ flagWord (f .sequence) (ascii "break"))
-    ++ (ascii " dbc=" ++ flagWord (f .block) (ascii "break"))
+    ++ (ascii " dbc=" ++ blockWord (hasCip tag) (f .block))
     ++ (ascii " fmt=" ++ flagWord (f .format) (ascii "change"))
     ++ (ascii " mr=" ++ flagWord (f .mr) (ascii "change"))
 
@@ -64,7 +72,7 @@ unfoldable pub lineText : ℕ → Line → List ℕ
 lineText n admitted = decimal n ++ ascii " admitted\n"
 lineText n removed = decimal n ++ ascii " removed\n"
 lineText n (refused number) = decimal n ++ ascii " refused " ++ decimal number ++ ascii "\n"
-lineText n (frame flags timing) = decimal n ++ flagsText flags ++ timingText timing
+lineText n (frame tag flags timing) = decimal n ++ flagsText tag flags ++ timingText timing
 
 -- ---- The end of a listing
 

@@ -17,7 +17,11 @@ pub enum Outcome {
     Removed,
     Refused(Refusal),
     // An accepted frame.
-    Frame { flags: Flags, timing: Timing },
+    Frame {
+        tag: u8,
+        flags: Flags,
+        timing: Timing,
+    },
 }
 
 pub enum Placed {

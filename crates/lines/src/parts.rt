@@ -9,10 +9,11 @@ ghost use Prim.Native.Nat.{_≤_};
 ghost use mathlib.Core.Bool.{true};
 ghost use mathlib.Core.List.{_++_};
 ghost use lib.ListN.{length};
+ghost use Rattle.frame.specs.Layout.{hasCip};
 ghost use Rattle.refusal.specs.Refusals.{numberOf};
 ghost use Rattle.text.specs.Text.{ascii, decimal};
 ghost use Rattle.text.specs.InTurn.{PutInTurn};
-ghost use Rattle.lines.specs.Lines.{endLine, ending, refused, frame, flagWord, flagsText, kindWord, timingText, lineOf, lineText};
+ghost use Rattle.lines.specs.Lines.{endLine, ending, refused, frame, flagWord, blockWord, flagsText, kindWord, timingText, lineOf, lineText};
 ghost use Rattle.lines.specs.Placing.{lineRoom};
 
 // A label, and the word where the flag is raised, else `ok`.
@@ -26,21 +27,31 @@ fn put_flag(out: &mut [u8], at: usize, label: &[u8], raised: bool, word: &[u8]) 
     text::put(out, a, b"ok")
 }
 
-fn put_each_flag(out: &mut [u8], at: usize, flags: Flags) -> usize
-    ensures { λ r. ⌜ PutInTurn (now (out .entry)) at (flagsText flags) (now (out .exit)) r ⌝ }
+// The word for the block count: without a CIP header none is judged.
+fn put_block(out: &mut [u8], at: usize, tag: u8, raised: bool) -> usize
+    ensures { λ r. ⌜ PutInTurn (now (out .entry)) at (ascii " dbc=" ++ blockWord (hasCip tag) raised) (now (out .exit)) r ⌝ }
+{
+    if tag != 1 {
+        return text::put(out, at, b" dbc=none");
+    }
+    put_flag(out, at, b" dbc=", raised, b"break")
+}
+
+fn put_each_flag(out: &mut [u8], at: usize, tag: u8, flags: Flags) -> usize
+    ensures { λ r. ⌜ PutInTurn (now (out .entry)) at (flagsText tag flags) (now (out .exit)) r ⌝ }
 {
     let a = put_flag(out, at, b" frame seq=", flags.sequence, b"break");
-    let b = put_flag(out, a, b" dbc=", flags.block, b"break");
+    let b = put_block(out, a, tag, flags.block);
     let c = put_flag(out, b, b" fmt=", flags.format, b"change");
     put_flag(out, c, b" mr=", flags.mr, b"change")
 }
 
-// The flags, at once where none is raised.
-fn put_flags(out: &mut [u8], at: usize, flags: Flags) -> usize
-    ensures { λ r. ⌜ PutInTurn (now (out .entry)) at (flagsText flags) (now (out .exit)) r ⌝ }
+// The flags, at once where each is judged and none is raised.
+fn put_flags(out: &mut [u8], at: usize, tag: u8, flags: Flags) -> usize
+    ensures { λ r. ⌜ PutInTurn (now (out .entry)) at (flagsText tag flags) (now (out .exit)) r ⌝ }
 {
-    if flags.sequence || flags.block || flags.format || flags.mr {
-        return put_each_flag(out, at, flags);
+    if tag != 1 || flags.sequence || flags.block || flags.format || flags.mr {
+        return put_each_flag(out, at, tag, flags);
     }
     text::put(out, at, b" frame seq=ok dbc=ok fmt=ok mr=ok")
 }
@@ -71,12 +82,12 @@ fn put_timing(out: &mut [u8], at: usize, timing: Timing) -> usize
     text::put(out, b, b"\n")
 }
 
-fn put_frame(out: &mut [u8], at: usize, n: u64, flags: Flags, timing: Timing) -> usize
-    ensures { λ r. ⌜ PutInTurn (now (out .entry)) at (lineText n (frame flags timing)) (now (out .exit)) r ⌝ }
-    ensures { λ _. ⌜ length (lineText n (frame flags timing)) ≤ 110 ⌝ }
+fn put_frame(out: &mut [u8], at: usize, n: u64, tag: u8, flags: Flags, timing: Timing) -> usize
+    ensures { λ r. ⌜ PutInTurn (now (out .entry)) at (lineText n (frame tag flags timing)) (now (out .exit)) r ⌝ }
+    ensures { λ _. ⌜ length (lineText n (frame tag flags timing)) ≤ 110 ⌝ }
 {
     let a = text::put_decimal(out, at, n);
-    let b = put_flags(out, a, flags);
+    let b = put_flags(out, a, tag, flags);
     put_timing(out, b, timing)
 }
 
@@ -106,7 +117,7 @@ pub(crate) fn put_line(out: &mut [u8], at: usize, n: u64, outcome: Outcome) -> u
         Outcome::Admitted => put_numbered(out, at, n, b" admitted\n"),
         Outcome::Removed => put_numbered(out, at, n, b" removed\n"),
         Outcome::Refused(refusal) => put_refused(out, at, n, refusal),
-        Outcome::Frame { flags, timing } => put_frame(out, at, n, flags, timing),
+        Outcome::Frame { tag, flags, timing } => put_frame(out, at, n, tag, flags, timing),
     }
 }
 

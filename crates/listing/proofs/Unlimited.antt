@@ -162,7 +162,7 @@ unfolding presentationWithin
 line-not-far t bytes (damaged n) = refl
 line-not-far t bytes (arrival L) =
     let a = receive t (frameIn bytes) L .0 in
-    by-number (a .number) (frame (a .flags) (presentation L (a .fields) (a .payload))) (not-far L (stampOf (a .fields) (a .payload)))
+    by-number (a .number) (frame (a .fields .header .stream .tag) (a .flags) (presentation L (a .fields) (a .payload))) (not-far L (stampOf (a .fields) (a .payload)))
 line-not-far t bytes (admission id limit) = by-number (admit largestLimit t id .0) admitted refl
 line-not-far t bytes (removal id) = by-number (remove t id .0) removed refl
 

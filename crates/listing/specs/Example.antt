@@ -8,14 +8,22 @@ use Rattle.wire.specs.Numbers.{bytes}
 use Rattle.text.specs.Text.{ascii}
 use Rattle.listing.specs.Listing.{Said, visit, listing}
 
--- a sound frame of a stream without blocks: the byte of sv, mr and tv, the sequence number, id, timestamp and CIP header (before them stand
--- destination, source, VLAN tag, Ethertype and the AVTPDU's first byte; between them gateway info, stream_data_length, tag and channel)
-abbrev pub frameWith : ℕ → ℕ → ℕ → ℕ → ℕ → List ℕ
-frameWith bits sequence id timestamp cip =
+-- the first 42 bytes of a frame: the byte of sv, mr and tv, the sequence number, id, timestamp, stream_data_length, and the two bytes of
+-- tag, channel, tcode and sy (before them stand destination, source, VLAN tag, Ethertype and the AVTPDU's first byte)
+abbrev headerWith : ℕ → ℕ → ℕ → ℕ → ℕ → ℕ → List ℕ
+headerWith bits sequence id timestamp n packet =
     bytes 6 0x91E0F0000001 ++ bytes 6 0x020000000001 ++ bytes 2 0x8100 ++ bytes 2 0x6002 ++ bytes 2 0x22F0
     ++ bytes 1 0x00 ++ bytes 1 bits ++ bytes 1 sequence ++ bytes 1 0
-    ++ bytes 8 id ++ bytes 4 timestamp ++ bytes 4 0 ++ bytes 2 8
-    ++ bytes 2 0x5FA0 ++ bytes 8 cip
+    ++ bytes 8 id ++ bytes 4 timestamp ++ bytes 4 0 ++ bytes 2 n
+    ++ bytes 2 packet
+
+-- a sound frame of a stream without blocks, with this CIP header
+abbrev pub frameWith : ℕ → ℕ → ℕ → ℕ → ℕ → List ℕ
+frameWith bits sequence id timestamp cip = headerWith bits sequence id timestamp 8 0x5FA0 ++ bytes 8 cip
+
+-- one without a CIP header, and with three bytes of payload
+abbrev bareFrame : ℕ → ℕ → ℕ → List ℕ
+bareFrame sequence id timestamp = headerWith 0x81 sequence id timestamp 3 0x1FA0 ++ bytes 3 0x3F06FF
 
 -- with an AVTP timestamp
 abbrev pub soundFrame : ℕ → ℕ → List ℕ
@@ -56,6 +64,32 @@ limitListing =
     ++ ascii "3 refused 24\n"
     ++ ascii "end records=3\n"
 
+-- a camera's frames and those of a tape deck in one stream: tags 0, 1, 0, 0, 1, 1 and 2, the second with tag 0 without a payload, and
+-- the counts 7, 7 and 8 (request #108)
+unfoldable pub mixedCapture : List ℕ
+mixedCapture =
+    recordBytes 2 (bytes 8 1)
+    ++ recordBytes 1 (reverse (bytes 8 1000) ++ bareFrame 0 1 3000)
+    ++ recordBytes 1 (reverse (bytes 8 1000) ++ frameWith 0x81 1 1 3000 0x000600079002FFFF)
+    ++ recordBytes 1 (reverse (bytes 8 1000) ++ headerWith 0x81 2 1 3000 0 0x1FA0)
+    ++ recordBytes 1 (reverse (bytes 8 1000) ++ bareFrame 3 1 3000)
+    ++ recordBytes 1 (reverse (bytes 8 1000) ++ frameWith 0x81 4 1 3000 0x000600079002FFFF)
+    ++ recordBytes 1 (reverse (bytes 8 1000) ++ frameWith 0x81 5 1 3000 0x000600089002FFFF)
+    ++ recordBytes 1 (reverse (bytes 8 1000) ++ headerWith 0x81 6 1 3000 0 0x9FA0)
+
+unfoldable pub mixedListing : List ℕ
+mixedListing =
+    ascii "avtp listing 1\n"
+    ++ ascii "1 admitted\n"
+    ++ ascii "2 frame seq=ok dbc=none fmt=ok mr=ok time=ahead offset=2000\n"
+    ++ ascii "3 frame seq=ok dbc=ok fmt=change mr=ok time=ahead offset=2000\n"
+    ++ ascii "4 frame seq=ok dbc=none fmt=change mr=ok time=ahead offset=2000\n"
+    ++ ascii "5 frame seq=ok dbc=none fmt=ok mr=ok time=ahead offset=2000\n"
+    ++ ascii "6 frame seq=ok dbc=ok fmt=change mr=ok time=ahead offset=2000\n"
+    ++ ascii "7 frame seq=ok dbc=break fmt=ok mr=ok time=ahead offset=2000\n"
+    ++ ascii "8 refused 12\n"
+    ++ ascii "end records=8\n"
+
 pub record WorkedExample : Type 0 where
   pub whole : listing exampleCapture ≡ exampleListing
   -- the stream that each record is about
@@ -63,5 +97,6 @@ pub record WorkedExample : Type 0 where
   -- an empty capture lists the first and last line
   pub empty : listing [] ≡ ascii "avtp listing 1\nend records=0\n"
   pub limits : listing limitCapture ≡ limitListing
+  pub mixed : listing mixedCapture ≡ mixedListing
   -- a cut record is listed and counted too
   pub cut : listing (take 15 exampleCapture) ≡ ascii "avtp listing 1\n1 admitted\n2 refused 41\nend records=2\n"

@@ -26,7 +26,7 @@ changeLine number line = ifAccepted number line (refused number)
 
 -- a received frame by its answer
 abbrev pub frameLine : Answer → Line
-frameLine a = ifAccepted (a .number) (frame (a .flags) (a .timing)) (refused (a .number))
+frameLine a = ifAccepted (a .number) (frame (a .fields .header .stream .tag) (a .flags) (a .timing)) (refused (a .number))
 
 abbrev pub frameStream : Answer → Option ℕ
 frameStream a = ifAccepted (a .number) (some (a .fields .header .stream .id)) none

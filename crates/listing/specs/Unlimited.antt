@@ -54,7 +54,7 @@ abbrev pub isFar : Line → Bool
 isFar admitted = false
 isFar removed = false
 isFar (refused number) = false
-isFar (frame flags timing) = sameKind (timing .kind) Far
+isFar (frame tag flags timing) = sameKind (timing .kind) Far
 
 abbrev pub NoneIsFar : List Said → Type 0
 NoneIsFar [] = Unit {0}

@@ -95,9 +95,10 @@ pub(crate) fn outcome_of_receipt(receipt: Receipt) -> Outcome
 {
     match receipt {
         Receipt::Accepted(judged) => {
+            let tag = judged.fields.header.stream.tag;
             let flags = judged.flags;
             let timing = judged.timing;
-            Outcome::Frame { flags, timing }
+            Outcome::Frame { tag, flags, timing }
         }
         Receipt::Refused(refusal) => Outcome::Refused(refusal),
     }

@@ -6,7 +6,7 @@ ghost use Rattle.listing.specs.InChunks.{ListedInChunks};
 ghost use Rattle.listing.specs.Example.{WorkedExample};
 ghost use Rattle.listing.specs.Unlimited.{UnlimitedWithout5};
 
-// The rules list document 01's capture as it does.
+// The rules list document 01's capture as it does, and worked ones of requests #107 and #108.
 fn worked_example()
     ensures { λ _. ⌜ WorkedExample ⌝ }
 {}

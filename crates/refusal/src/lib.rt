@@ -3,7 +3,8 @@ ghost use mathlib.Core.Path.{_≡_};
 ghost use Rattle.refusal.specs.Refusals.{numberOf};
 
 pub enum Refusal {
-    // Reading and receiving a frame: 1 to 15, and 16 (request #105), which is asked between 13 and 14.
+    // Reading and receiving a frame: 1 to 15, and 16 (request #105), which is asked between 13 and 14; these three with tag 1 alone
+    // (request #108).
     FrameTooShort,
     FrameTooLong,
     WrongTpid,

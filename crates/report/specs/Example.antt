@@ -9,7 +9,7 @@ use Rattle.wire.specs.Numbers.{bytes}
 use Rattle.text.specs.Text.{ascii}
 use Rattle.stream.specs.declared.Record.{Record}
 use Rattle.report_lines.specs.Columns.{recordText}
-use Rattle.listing.specs.Example.{frameWith, soundFrame, recordBytes, exampleCapture}
+use Rattle.listing.specs.Example.{frameWith, soundFrame, recordBytes, exampleCapture, mixedCapture}
 use Rattle.report.specs.Report.{report}
 
 -- a frame of stream 12 that arrives at L, with these bits, sequence number, stamp T and CIP header
@@ -101,6 +101,8 @@ sampleRecord =
       sequence = 0;
       «next_dbc» = 0;
       mr = false;
+      tag = 1;
+      «dbc_expected» = true;
       limit = 0;
       format = record { fmt = 0; dbs = 0; «fraction_number» = 0; sph = false };
       counts = record { frames = 72; «sequence_breaks» = 1; «block_breaks» = 2; «format_changes» = 4; «mr_changes» = 5 };
@@ -123,6 +125,8 @@ pub record WorkedReport : Type 0 where
   pub whole-visit : report visitCapture ≡ visitReport
   pub half-a-wrap : report halfWrapCapture ≡ ascii "12 5 0 0 0 0 0 0 1 1 1 2 0 -5 6 1 1/2 0\n"
   pub limits : report limitCapture ≡ limitReport
+  -- a stream of both tags: a block break, and a format change at each change of the tag
+  pub mixed : report mixedCapture ≡ ascii "1 6 0 1 3 0 0 0 0 0 6 0 0 2000 2000 12000 12000/6 0\n"
   -- an empty capture has no line, and one that is cut is reported on as far as it goes
   pub empty : report [] ≡ []
   pub cut : report (take 15 exampleCapture) ≡ report (take 12 exampleCapture)

@@ -31,12 +31,12 @@ abbrev pub isAbout : ℕ → Option ℕ → Bool
 isAbout id none = false
 isAbout id (some stream) = eqb stream id
 
--- admission starts anew, removal drops what there was, and what is refused changes nothing
+-- admission starts anew, removal drops what there was, and what is refused changes nothing; a line with `dbc=none` raises no block flag
 abbrev pub framesBy : Line → List ListedFrame → List ListedFrame
 framesBy admitted frames = []
 framesBy removed frames = []
 framesBy (refused number) frames = frames
-framesBy (frame flags timing) frames = frames ++ (record { flags = flags; timing = timing } ∷ [])
+framesBy (frame tag flags timing) frames = frames ++ (record { flags = flags; timing = timing } ∷ [])
 
 unfoldable pub since : ℕ → List ListedFrame → List Said → List ListedFrame
 since id frames [] = frames

@@ -1,36 +1,63 @@
 -- A sender's successive frames follow each other without a gap. Assumes nothing.
-use Prim.Native.Nat.{ℕ, zero, suc, _+_, _≤_}
+use Prim.Native.Nat.{ℕ, zero, suc, _+_, _%_, _≤_, _<_}
 use mathlib.Core.Path.{_≡_, refl, ap, _∙_}
+use mathlib.Core.Bool.{Bool, true, false, cond}
 use mathlib.Core.List.{List, [], _∷_, _++_}
 use native.Mathlib.Nat.{mod-lt}
 use native.Mathlib.Omega.{arith}
 use lib.ListN.{length}
 use Rattle.refusal.specs.Refusals.{ifAccepted}
-use Rattle.frame.specs.Layout.{fieldsOf}
-use Rattle.frame.specs.Reading.{blocksOf}
+use Rattle.frame.specs.Layout.{hasCip, noCip, fieldsOf}
+use Rattle.frame.specs.Reading.{blocksOf, blocksWith}
 use Rattle.writer.specs.declared.Sender.{Sender}
 use Rattle.writer.specs.declared.given.Given.{Given}
 use Rattle.writer.specs.Frames.{frameBytes}
 use Rattle.writer.specs.Writing.{writeRefusal, advanced, writing}
-use Rattle.round_trip.specs.ReadBack.{SenderTyped, GivenTyped, fieldsWritten, frameLeft}
-use Rattle.round_trip.specs.WriteBack.{senderOf}
+use Rattle.round_trip.specs.ReadBack.{SenderTyped, GivenTyped, headerWritten, cipWritten, fieldsWritten, frameLeft}
+use Rattle.round_trip.specs.WriteBack.{Carries}
 use Rattle.round_trip.specs.Successive.{Call, successive, CallsTyped, Delivered, Gapless, senderAfter}
 use Rattle.round_trip.proofs.ReadBack.{left-bytes, fields-back, refusal-back, payload-back}
 
 pub advanced-typed : (s : Sender) (g : Given) (payload : List ℕ) → SenderTyped (advanced s g payload)
 unfolding advanced
-advanced-typed s g payload = record { sequence = mod-lt (s .sequence + 1) (omega arith); dbc = mod-lt (s .dbc + blocksOf payload (g .cip .dbs)) (omega arith) }
+advanced-typed s g payload =
+    record {
+      sequence = mod-lt (s .sequence + 1) (omega arith);
+      dbc = mod-lt (s .dbc + blocksWith (g .stream .tag) payload (g .cip .dbs)) (omega arith);
+    }
+
+-- a count that is not moved
+unmoved : (dbc : ℕ) → dbc < 256 → (dbc + 0) % 256 ≡ dbc
+unmoved dbc h = omega arith
+
+pub block-count-stays : (s : Sender) (g : Given) (payload : List ℕ) (room : ℕ) → SenderTyped s → hasCip (g .stream .tag) ≡ false → writing s g payload room .sender .dbc ≡ s .dbc
+unfolding writing advanced blocksWith
+block-count-stays s g payload room sender none = answered (writeRefusal g (length payload) room)
+  where
+    answered : (n : ℕ) → (ifAccepted n (advanced s g payload) s) .dbc ≡ s .dbc
+    answered zero = rw none (unmoved (s .dbc) (sender .dbc))
+    answered (suc n) = refl
 
 -- a received frame carries the sender's numbers, and those after it are the moved sender's
 module _ (s : Sender) (g : Given) (payload padding : List ℕ) (room : ℕ) (sender : SenderTyped s) (given : GivenTyped g)
     (ok : writeRefusal g (length payload) room ≡ 0) (short : length (frameBytes s g payload ++ padding) ≤ 1518) where
-  numbers : senderOf (fieldsOf (frameBytes s g payload ++ padding)) ≡ s
-  unfolding senderOf fieldsWritten
-  numbers = ap senderOf (fields-back s g payload padding room sender given ok)
+  numbers : Carries (fieldsOf (frameBytes s g payload ++ padding)) s
+  unfolding headerWritten cipWritten fieldsWritten
+  numbers =
+      rw (fields-back s g payload padding room sender given ok)
+      (record { sequence = refl; dbc = λ has. ap (λ (b : Bool). (cond b (cipWritten (s .dbc) (g .cip)) noCip) .dbc) has })
 
-  moved : advanced s g payload ≡ senderAfter (frameBytes s g payload ++ padding)
-  unfolding advanced senderAfter fieldsWritten
-  moved = rw (fields-back s g payload padding room sender given ok, payload-back s g payload padding room sender given ok short)
+  count : (has : Bool) → (s .dbc + cond has (blocksOf payload (g .cip .dbs)) 0) % 256
+      ≡ (let c = cond has (cipWritten (s .dbc) (g .cip)) noCip in cond has ((c .dbc + blocksOf payload (c .dbs)) % 256) (s .dbc))
+  unfolding cipWritten
+  count true = refl
+  count false = unmoved (s .dbc) (sender .dbc)
+
+  moved : advanced s g payload ≡ senderAfter s (frameBytes s g payload ++ padding)
+  unfolding advanced blocksWith senderAfter headerWritten fieldsWritten
+  moved =
+      rw (fields-back s g payload padding room sender given ok, payload-back s g payload padding room sender given ok short)
+      (λ i. record { sequence = (s .sequence + 1) % 256; dbc = count (hasCip (g .stream .tag)) i })
 
 -- a call that is answered n, where the calls after it are gapless from any sender on
 module _ (s : Sender) (c : Call) (cs : List Call) (sender : SenderTyped s) (given : GivenTyped (c .given))

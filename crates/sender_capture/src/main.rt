@@ -28,6 +28,7 @@ fn given(timestamp: u32) -> Given {
             id: 1,
             timestamp,
             gateway_info: 0,
+            tag: 1,
             channel: 31,
             sy: 0,
         },

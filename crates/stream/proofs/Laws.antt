@@ -1,15 +1,15 @@
 -- What the crates above need of a step. Assumes nothing.
 use Prim.Native.Nat.{ℕ, _+_, _%_}
 use mathlib.Core.Path.{_≡_, refl, sym, ap, _∙_}
-use mathlib.Core.Logic.{_⊎_, inl, inr, ⊎-elim}
-use mathlib.Core.Bool.{Bool, true, false, not, _&&_}
+use mathlib.Core.Bool.{Bool, true, false, not, _&&_, _||_, cond, false≢true}
 use mathlib.Core.List.{List}
 use borrow.Author.Tests.{eq-eqb}
-use Rattle.frame.specs.Layout.{fieldsOf}
+use Rattle.refusal.specs.Refusals.{differs}
+use Rattle.frame.specs.Layout.{hasCip, fieldsOf}
 use Rattle.frame.specs.Reading.{payloadOf, blocksOf}
 use Rattle.tally.specs.Tally.{counted}
 use Rattle.stream.specs.declared.Record.{Record}
-use Rattle.stream.specs.Records.{noCounts, admittedWithin, flagsOf, bump, countsAfter, recordAfter}
+use Rattle.stream.specs.Records.{noCounts, admittedWithin, blockFlag, flagsOf, keptDbc, dbcExpected, bump, countsAfter, recordAfter}
 use Rattle.stream.specs.Step.{stepped}
 use Rattle.stream.specs.Answers.{stepOf, answerOf, after}
 
@@ -63,32 +63,50 @@ pub after-tally : (r : Record) (frame : List ℕ) (L : ℕ) → after r frame L 
 unfolding after answerOf stepOf stepped recordAfter
 after-tally r frame L = refl
 
--- what a record expects of the next frame: this sequence number and block count, or anything where no frame has been seen
-abbrev pub Expects : Record → ℕ → ℕ → Type 0
-Expects r sequence dbc = (r .seen ≡ false) ⊎ (((r .sequence + 1) % 256 ≡ sequence) × (r .«next_dbc» ≡ dbc))
+-- what a record expects of the next frame: this sequence number where a frame has been seen, and this block count where one is expected
+pub record Expects (r : Record) (number count : ℕ) : Type 0 where
+  pub sequence : r .seen ≡ true → (r .sequence + 1) % 256 ≡ number
+  pub dbc : r .«dbc_expected» ≡ true → r .«next_dbc» ≡ count
 
 pub expects-any : (k limit sequence dbc : ℕ) → Expects (admittedWithin k limit) sequence dbc
 unfolding admittedWithin
-expects-any k limit sequence dbc = inl refl
+expects-any k limit sequence dbc = record { sequence = λ e. absurd (false≢true e); dbc = λ e. absurd (false≢true e) }
 
-module _ (r : Record) (frame : List ℕ) (L : ℕ) where
-  -- a frame with the numbers that are expected breaks neither sequence nor block count
-  pub no-breaks : Expects r (fieldsOf frame .header .avtp .sequence) (fieldsOf frame .cip .dbc)
-      → (answerOf r frame L .flags .sequence ≡ false) × (answerOf r frame L .flags .block ≡ false)
-  unfolding answerOf stepOf stepped flagsOf
-  no-breaks =
-      ⊎-elim
-      (λ new. (rw new, rw new))
-      (λ same. (
-        ap (λ (b : Bool). r .seen && not b) (eq-eqb _ _ (sym (same .0))) ∙ and-false (r .seen),
-        ap (λ (b : Bool). r .seen && not b) (eq-eqb _ _ (sym (same .1))) ∙ and-false (r .seen),
-      ))
-    where
-      and-false : (b : Bool) → b && false ≡ false
-      and-false true = refl
-      and-false false = refl
+-- where a flag may be raised, the numbers that it compares are the same
+no-sequence : (seen : Bool) (a b : ℕ) → (seen ≡ true → b ≡ a) → seen && differs a b ≡ false
+no-sequence true a b e = ap not (eq-eqb a b (sym (e refl)))
+no-sequence false a b e = refl
+
+no-block : (seen has expected : Bool) (a b n : ℕ) → (has ≡ true → a ≡ n) → (expected ≡ true → b ≡ n) → seen && (has && expected && differs a b) ≡ false
+no-block false has expected a b n f e = refl
+no-block true false expected a b n f e = refl
+no-block true true false a b n f e = refl
+no-block true true true a b n f e = ap not (eq-eqb a b (f refl ∙ sym (e refl)))
+
+-- the count that is kept is the one that is expected next
+next-block : (has seen expected : Bool) (a b n : ℕ) → (expected ≡ true → b ≡ n) → has || (seen && expected) ≡ true → cond has a b ≡ cond has a n
+next-block true seen expected a b n e h = refl
+next-block false true expected a b n e h = e h
+next-block false false expected a b n e h = absurd (false≢true h)
+
+-- a frame that carries the numbers that are expected
+module _ (r : Record) (frame : List ℕ) (L : ℕ) (sequence dbc : ℕ) (expects : Expects r sequence dbc)
+    (same : fieldsOf frame .header .avtp .sequence ≡ sequence) (carried : hasCip (fieldsOf frame .header .stream .tag) ≡ true → fieldsOf frame .cip .dbc ≡ dbc) where
+  -- breaks neither sequence nor block count
+  pub no-breaks : (answerOf r frame L .flags .sequence ≡ false) × (answerOf r frame L .flags .block ≡ false)
+  unfolding answerOf stepOf stepped flagsOf blockFlag
+  no-breaks = (
+    no-sequence (r .seen) (fieldsOf frame .header .avtp .sequence) ((r .sequence + 1) % 256) (λ e. expects .sequence e ∙ sym same),
+    no-block (r .seen) (hasCip (fieldsOf frame .header .stream .tag)) (r .«dbc_expected») (fieldsOf frame .cip .dbc) (r .«next_dbc») dbc carried (expects .dbc),
+  )
 
   -- and after it the next frame is expected to follow
-  pub expects-next : Expects (after r frame L) ((fieldsOf frame .header .avtp .sequence + 1) % 256) ((fieldsOf frame .cip .dbc + blocksOf (payloadOf frame) (fieldsOf frame .cip .dbs)) % 256)
-  unfolding after stepOf stepped recordAfter
-  expects-next = inr (refl, refl)
+  pub expects-next : Expects (after r frame L) ((fieldsOf frame .header .avtp .sequence + 1) % 256)
+      (cond (hasCip (fieldsOf frame .header .stream .tag)) ((fieldsOf frame .cip .dbc + blocksOf (payloadOf frame) (fieldsOf frame .cip .dbs)) % 256) dbc)
+  unfolding after stepOf stepped recordAfter keptDbc dbcExpected
+  expects-next =
+      record {
+        sequence = λ e. refl;
+        dbc = next-block (hasCip (fieldsOf frame .header .stream .tag)) (r .seen) (r .«dbc_expected»)
+            ((fieldsOf frame .cip .dbc + blocksOf (payloadOf frame) (fieldsOf frame .cip .dbs)) % 256) (r .«next_dbc») dbc (expects .dbc);
+      }

@@ -7,7 +7,7 @@ use mathlib.Core.List.{List, []}
 use lib.IntN.{pos}
 use lib.ListN.{replicate}
 use Rattle.frame.specs.declared.layout.Fields.{Fields}
-use Rattle.frame.specs.Layout.{fieldsOf}
+use Rattle.frame.specs.Layout.{payloadStart, fieldsOf, cipIn}
 use Rattle.refusal.specs.Refusals.{numberOf}
 use Rattle.frame.specs.Reading.{noFields, payloadOf, dataOf, DataThere}
 use Rattle.presentation.specs.declared.Timing.{Timing}
@@ -65,22 +65,27 @@ after r frame L = stepOf r frame L .after
 unfoldable pub idOf : List ℕ → ℕ
 idOf frame = fieldsOf frame .header .stream .id
 
--- what each case of a receipt says of the frame for which it is given: its payload is the part of the frame that the receipt's own
--- stream_data_length leaves to it, and empty where the frame is refused
+-- what each case of a receipt says of the frame for which it is given: its payload is the part of the frame that the receipt's own tag and
+-- stream_data_length leave to it, and empty where the frame is refused
 abbrev pub receiptAnswer : Receipt → List ℕ → Answer
 receiptAnswer (Accepted j) frame =
     record {
       number = 0;
       fields = j .fields;
-      payload = dataOf frame (j .fields .header .stream .«data_length»);
+      payload = dataOf frame (j .fields .header .stream .tag) (j .fields .header .stream .«data_length»);
       flags = j .flags;
       timing = j .timing;
     }
 receiptAnswer (Refused r) frame = refusedWith (numberOf r)
 
--- the frame has the part that the receipt's stream_data_length leaves to the payload
+-- where that part starts
+abbrev pub startIn : Receipt → ℕ
+startIn (Accepted j) = payloadStart (cipIn (j .fields))
+startIn (Refused r) = 0
+
+-- the frame has that part
 abbrev pub PayloadThere : Receipt → List ℕ → Type 0
-PayloadThere (Accepted j) frame = DataThere frame (j .fields .header .stream .«data_length»)
+PayloadThere (Accepted j) frame = DataThere frame (j .fields .header .stream .tag) (j .fields .header .stream .«data_length»)
 PayloadThere (Refused r) frame = ⊥
 
 -- a refused answer says nothing: its parts are those of a step that an unused record takes for fifty zero bytes, with no payload

@@ -1,4 +1,5 @@
 pub mod Records
+pub mod Private
 pub mod Step
 pub mod Answers
 pub mod Examples

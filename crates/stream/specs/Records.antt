@@ -1,4 +1,4 @@
--- A stream's record and what an accepted frame makes of it (document 01, Stream records; requests #104 and #107).
+-- A stream's record and what an accepted frame makes of it (document 01, Stream records; requests #104, #107 and #108).
 use Prim.Native.Nat.{ℕ, _+_, _%_}
 use mathlib.Core.Path.{_≡_}
 use mathlib.Core.Bool.{Bool, true, false, not, _&&_, _||_, cond, Bool·beq}
@@ -8,7 +8,7 @@ use lib.ListN.{replicate}
 use Rattle.frame.specs.declared.layout.Cip.{Cip}
 use Rattle.frame.specs.declared.layout.Fields.{Fields}
 use Rattle.refusal.specs.Refusals.{differs}
-use Rattle.frame.specs.Layout.{fieldsOf}
+use Rattle.frame.specs.Layout.{fieldsOf, cipIn}
 use Rattle.frame.specs.Reading.{blocksOf}
 use Rattle.presentation.specs.declared.Timing.{Timing}
 use Rattle.presentation.specs.Presentation.{largestLimit}
@@ -37,6 +37,8 @@ unused =
       sequence = 0;
       «next_dbc» = 0;
       mr = false;
+      tag = 0;
+      «dbc_expected» = false;
       limit = 0;
       format = noFormat;
       counts = noCounts;
@@ -53,6 +55,8 @@ admittedWithin id limit =
       sequence = 0;
       «next_dbc» = 0;
       mr = false;
+      tag = 0;
+      «dbc_expected» = false;
       limit = limit;
       format = noFormat;
       counts = noCounts;
@@ -81,6 +85,8 @@ ZeroRecords =
       sequence = zeros .header .avtp .sequence;
       «next_dbc» = zeros .cip .dbc;
       mr = zeros .header .avtp .mr;
+      tag = zeros .header .stream .tag;
+      «dbc_expected» = false;
       limit = limit;
       format = record { fmt = zeros .cip .fmt; dbs = zeros .cip .dbs; «fraction_number» = zeros .cip .«fraction_number»; sph = zeros .cip .sph };
       counts = none;
@@ -109,13 +115,23 @@ formatChange last f =
     || differs (f .«fraction_number») (last .«fraction_number»)
     || bitDiffers (f .sph) (last .sph)
 
+-- a block count is judged where the frame has a CIP header and a count is expected: "a tag 1 frame that finds it absent raises no block flag"
+unfoldable pub blockFlag : Record → Fields → Bool
+blockFlag r f = cipIn f && r .«dbc_expected» && differs (f .cip .dbc) (r .«next_dbc»)
+
+-- "raised when the tag differs from the last frame's; between two tag 0 frames it isn't", between two of tag 1 by the four fields
+unfoldable pub formatFlag : Record → Fields → Bool
+formatFlag r f =
+    differs (f .header .stream .tag) (r .tag)
+    || (cipIn f && formatChange (r .format) (formatOf (f .cip)))
+
 -- no flag is raised on the first frame after admission
 unfoldable pub flagsOf : Record → Fields → Flags
 flagsOf r f =
     record {
       sequence = r .seen && sequenceBreak (r .sequence) (f .header .avtp .sequence);
-      block = r .seen && differs (f .cip .dbc) (r .«next_dbc»);
-      format = r .seen && formatChange (r .format) (formatOf (f .cip));
+      block = r .seen && blockFlag r f;
+      format = r .seen && formatFlag r f;
       mr = r .seen && bitDiffers (f .header .avtp .mr) (r .mr);
     }
 
@@ -124,6 +140,18 @@ flagsOf r f =
 -- next block count
 abbrev pub nextDbc : ℕ → ℕ → ℕ
 nextDbc dbc blocks = (dbc + blocks) % 256
+
+-- "the four kept format fields change only with a tag 1 frame"
+unfoldable pub keptFormat : Record → Fields → Format
+keptFormat r f = cond (cipIn f) (formatOf (f .cip)) (r .format)
+
+-- the expected count "stays as the last tag 1 frame left it, or absent"
+unfoldable pub keptDbc : Record → Fields → List ℕ → ℕ
+keptDbc r f payload = cond (cipIn f) (nextDbc (f .cip .dbc) (blocksOf payload (f .cip .dbs))) (r .«next_dbc»)
+
+-- in a record with nothing seen it is absent, whatever a caller who lends one says
+unfoldable pub dbcExpected : Record → Fields → Bool
+dbcExpected r f = cipIn f || (r .seen && r .«dbc_expected»)
 
 -- up by 1 where the flag is raised; a count stays at 4,294,967,295 once there
 unfoldable pub bump : Bool → ℕ → ℕ
@@ -148,10 +176,12 @@ recordAfter r f payload raised timing =
       seen = true;
       id = r .id;
       sequence = f .header .avtp .sequence;
-      «next_dbc» = nextDbc (f .cip .dbc) (blocksOf payload (f .cip .dbs));
+      «next_dbc» = keptDbc r f payload;
       mr = f .header .avtp .mr;
+      tag = f .header .stream .tag;
+      «dbc_expected» = dbcExpected r f;
       limit = r .limit;
-      format = formatOf (f .cip);
+      format = keptFormat r f;
       counts = countsAfter (r .counts) raised;
       tally = counted timing (r .tally);
     }

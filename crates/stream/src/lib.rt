@@ -6,11 +6,13 @@ use presentation::Timing;
 use refusal::Refusal;
 use tally::Tally;
 ghost use mathlib.Core.Path.{_≡_};
+ghost use mathlib.Core.Bool.{_&&_};
 ghost use denote.Ref.{ptr};
 ghost use Rattle.wire.specs.Parts.{StandsIn};
-ghost use Rattle.stream.specs.Records.{unused, admittedWithin, ZeroRecords, formatOf, formatChange, sequenceBreak, flagsOf, nextDbc, bump, countsAfter, recordAfter};
+ghost use Rattle.stream.specs.Records.{unused, admittedWithin, ZeroRecords, formatOf, formatChange, sequenceBreak, keptFormat, flagsOf, nextDbc, bump, countsAfter};
+ghost use Rattle.stream.specs.Private.{keptAfter, Updated};
 ghost use Rattle.stream.specs.Step.{stepped};
-ghost use Rattle.stream.specs.Answers.{receiptAnswer, PayloadThere, RefusedAnswer};
+ghost use Rattle.stream.specs.Answers.{receiptAnswer, startIn, PayloadThere, RefusedAnswer};
 ghost use Rattle.stream.specs.Examples.{MarkedExamples};
 
 // The four format fields of a CIP header.
@@ -19,6 +21,13 @@ pub struct Format {
     pub dbs: u8,
     pub fraction_number: u8,
     pub sph: bool,
+}
+
+// What a record keeps of CIP headers: those three of its fields.
+struct Kept {
+    next_dbc: u8,
+    dbc_expected: bool,
+    format: Format,
 }
 
 // Counts since admission. Each stays at 4,294,967,295 once there.
@@ -37,13 +46,18 @@ pub struct Record {
     // a frame has been accepted since admission
     pub seen: bool,
     pub sequence: u8,
-    // the block count that the next frame should have
+    // the block count that the next frame with a CIP header should have, where one is expected
     pub next_dbc: u8,
+    // those of the last frame with a CIP header
     pub format: Format,
     pub id: u64,
     // the transit limit, in nanoseconds: a stamp ahead by more than this is far
     pub limit: u32,
     pub mr: bool,
+    // the last frame's
+    pub tag: u8,
+    // a frame with a CIP header has been accepted since admission; not read while no frame has been
+    pub dbc_expected: bool,
     pub counts: Counts,
     // what the visit report says of its presentation times; no flag and no kind reads it
     pub tally: Tally,
@@ -84,6 +98,8 @@ pub fn unused() -> Record
         sequence: 0,
         next_dbc: 0,
         mr: false,
+        tag: 0,
+        dbc_expected: false,
         limit: 0,
         format: Format {
             fmt: 0,
@@ -140,12 +156,50 @@ fn sequence_break(last: u8, sequence: u8) -> bool
     sequence as u16 != (last as u16 + 1) % 256
 }
 
-// Judged on the record as it stood. On the first frame after admission no flag is raised.
-fn raise_flags(last: Record, fields: Fields) -> Flags
+// The block count that follows a frame.
+fn next_dbc(dbc: u8, blocks: usize) -> u8
+    ensures { λ r. ⌜ r ≡ nextDbc dbc blocks ⌝ }
+{
+    ((dbc as usize + blocks % 256) % 256) as u8
+}
+
+// Is a block count expected? None is before the first frame, whatever a record that is lent says.
+fn expects_count(last: Record) -> bool
+    ensures { λ r. ⌜ r ≡ (last .seen && last .«dbc_expected») ⌝ }
+{
+    last.seen & last.dbc_expected
+}
+
+// What is kept of a frame's CIP header; a frame that has none leaves what is kept.
+fn keep(last: Record, fields: Fields, payload: &[u8]) -> Kept
+    ensures { λ r. ⌜ r ≡ keptAfter last fields (now (payload .entry)) ⌝ }
+{
+    let cip = fields.cip;
+    let tag = fields.header.stream.tag;
+    if tag == 1 {
+        return Kept {
+            next_dbc: next_dbc(cip.dbc, frame::blocks(tag, payload, cip.dbs)),
+            dbc_expected: true,
+            format: format_of(cip),
+        };
+    }
+    let format = last.format;
+    Kept {
+        next_dbc: last.next_dbc,
+        dbc_expected: expects_count(last),
+        format,
+    }
+}
+
+// Judged on the record as it stood, and on the format that is kept after the frame: without a CIP header that is the one from before, and
+// only the tag may differ. On the first frame after admission no flag is raised.
+fn raise_flags(last: Record, fields: Fields, kept: Format) -> Flags
+    requires { ⌜ kept ≡ keptFormat last fields ⌝ }
     ensures { λ r. ⌜ r ≡ flagsOf last fields ⌝ }
 {
     let avtp = fields.header.avtp;
-    let cip = fields.cip;
+    let tag = fields.header.stream.tag;
+    let dbc = fields.cip.dbc;
     if !last.seen {
         return Flags {
             sequence: false,
@@ -156,17 +210,10 @@ fn raise_flags(last: Record, fields: Fields) -> Flags
     }
     Flags {
         sequence: sequence_break(last.sequence, avtp.sequence),
-        block: cip.dbc != last.next_dbc,
-        format: format_change(last.format, format_of(cip)),
+        block: (tag == 1) & last.dbc_expected & (dbc != last.next_dbc),
+        format: (tag != last.tag) | format_change(last.format, kept),
         mr: avtp.mr != last.mr,
     }
-}
-
-// The block count that follows a frame.
-fn next_dbc(dbc: u8, blocks: usize) -> u8
-    ensures { λ r. ⌜ r ≡ nextDbc dbc blocks ⌝ }
-{
-    ((dbc as usize + blocks % 256) % 256) as u8
 }
 
 // A count, one higher where the flag is raised and there is room.
@@ -196,20 +243,22 @@ fn count_frame(counts: Counts, raised: Flags) -> Counts
     after
 }
 
-fn update(last: Record, fields: Fields, payload: &[u8], raised: Flags, timing: Timing) -> Record
-    ensures { λ r. ⌜ r ≡ recordAfter last fields (now (payload .entry)) raised timing ⌝ }
+fn update(last: Record, fields: Fields, kept: Kept, raised: Flags, timing: Timing) -> Record
+    ensures { λ r. ⌜ Updated last fields kept raised timing r ⌝ }
 {
     let avtp = fields.header.avtp;
-    let cip = fields.cip;
+    let format = kept.format;
     Record {
         in_use: last.in_use,
         seen: true,
         id: last.id,
         sequence: avtp.sequence,
-        next_dbc: next_dbc(cip.dbc, frame::blocks(payload, cip.dbs)),
+        next_dbc: kept.next_dbc,
         mr: avtp.mr,
+        tag: fields.header.stream.tag,
+        dbc_expected: kept.dbc_expected,
         limit: last.limit,
-        format: format_of(cip),
+        format,
         counts: count_frame(last.counts, raised),
         tally: tally::count(last.tally, timing),
     }
@@ -219,9 +268,10 @@ fn update(last: Record, fields: Fields, payload: &[u8], raised: Flags, timing: T
 pub fn step(last: Record, fields: Fields, payload: &[u8], arrival_time: u64) -> Stepped
     ensures { λ r. ⌜ r ≡ stepped last fields (now (payload .entry)) «arrival_time» ⌝ }
 {
-    let flags = raise_flags(last, fields);
     let timing = presentation::judge_time_within(arrival_time, fields, payload, last.limit);
-    let after = update(last, fields, payload, flags, timing);
+    let kept = keep(last, fields, payload);
+    let flags = raise_flags(last, fields, kept.format);
+    let after = update(last, fields, kept, flags, timing);
     Stepped {
         after,
         flags,
@@ -232,12 +282,12 @@ pub fn step(last: Record, fields: Fields, payload: &[u8], arrival_time: u64) -> 
 // The payload that goes with a receipt: a part of the frame for which it was given, empty where that is refused.
 pub fn payload_of(receipt: Receipt, frame: &[u8]) -> &[u8]
     ensures { λ r. ⌜ now r ≡ receiptAnswer receipt (now (frame .entry)) .payload ⌝ }
-    ensures { λ r. ⌜ StandsIn (ptr (frame .entry)) 50 (ptr r) (PayloadThere receipt (now (frame .entry))) ⌝ }
+    ensures { λ r. ⌜ StandsIn (ptr (frame .entry)) (startIn receipt) (ptr r) (PayloadThere receipt (now (frame .entry))) ⌝ }
 {
     match receipt {
         Receipt::Accepted(judged) => {
-            let length = judged.fields.header.stream.data_length;
-            frame::data(frame, length)
+            let header = judged.fields.header;
+            frame::data(frame, header.stream.tag, header.stream.data_length)
         }
         Receipt::Refused(_) => &frame[..0],
     }

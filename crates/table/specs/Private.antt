@@ -87,7 +87,7 @@ ruleOf Removal = remove
 
 unfoldable pub served : Record → Fields → List ℕ → ℕ → Served
 served r f frame L =
-    let s = stepped r f (dataOf frame (f .header .stream .«data_length»)) L in
+    let s = stepped r f (dataOf frame (f .header .stream .tag) (f .header .stream .«data_length»)) L in
     record {
       after = s .after;
       receipt = Accepted (record { fields = f; flags = s .flags; timing = s .timing });

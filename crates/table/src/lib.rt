@@ -124,7 +124,8 @@ fn read_for(n: usize, frame: &[u8]) -> Reading
 fn serve(last: Record, fields: Fields, frame: &[u8], arrival_time: u64) -> Served
     ensures { λ r. ⌜ r ≡ served last fields (now (frame .entry)) «arrival_time» ⌝ }
 {
-    let payload = frame::data(frame, fields.header.stream.data_length);
+    let header = fields.header;
+    let payload = frame::data(frame, header.stream.tag, header.stream.data_length);
     let stepped = stream::step(last, fields, payload, arrival_time);
     let after = stepped.after;
     let flags = stepped.flags;

@@ -1,5 +1,6 @@
 // Tables of stream records at their edges: a table of 65 records, which every call refuses with 20, a record lent alone, one id twice, the
-// calls by value, and the limit of each stream. Each call is made, and what it answers and leaves is printed.
+// calls by value, the limit of each stream, and frames with and without a CIP header. Each call is made, and what it answers and leaves is
+// printed.
 use libc::STDOUT_FILENO;
 use presentation::Kind;
 use presentation::LARGEST_LIMIT;
@@ -26,6 +27,10 @@ fn say(bytes: &[u8]) {
 fn number(name: &[u8], n: u64) {
     say(name);
     io::print_decimal(STDOUT_FILENO, n);
+}
+
+fn bit(name: &[u8], b: bool) {
+    number(name, if b { 1 } else { 0 });
 }
 
 fn show_refusal(r: Refusal) {
@@ -84,14 +89,37 @@ fn show_receipt(receipt: Receipt, frame: &[u8], arrival_time: u64) {
     say(b"\n");
 }
 
+fn show_flags(receipt: Receipt) {
+    if let Receipt::Accepted(judged) = receipt {
+        let flags = judged.flags;
+        bit(b"  flags sequence=", flags.sequence);
+        bit(b" block=", flags.block);
+        bit(b" format=", flags.format);
+        bit(b" mr=", flags.mr);
+        say(b"\n");
+    }
+}
+
 fn show_record(place: u64, r: Record) {
     number(b"  record ", place);
-    number(b" in_use=", if r.in_use { 1 } else { 0 });
+    bit(b" in_use=", r.in_use);
     number(b" id=", r.id);
     number(b" sequence=", r.sequence as u64);
     number(b" next_dbc=", r.next_dbc as u64);
     number(b" limit=", r.limit as u64);
     number(b" frames=", r.counts.frames as u64);
+    say(b"\n");
+}
+
+// What a record keeps of tags and CIP headers.
+fn show_kept(r: Record) {
+    bit(b"  kept seen=", r.seen);
+    number(b" tag=", r.tag as u64);
+    bit(b" dbc_expected=", r.dbc_expected);
+    number(b" fmt=", r.format.fmt as u64);
+    number(b" dbs=", r.format.dbs as u64);
+    number(b" fn=", r.format.fraction_number as u64);
+    bit(b" sph=", r.format.sph);
     say(b"\n");
 }
 
@@ -128,6 +156,7 @@ fn given(id: u64) -> Given {
             id,
             timestamp: 3000,
             gateway_info: 0,
+            tag: 1,
             channel: 31,
             sy: 0,
         },
@@ -147,6 +176,22 @@ fn frame_of(id: u64, sequence: u8, dbc: u8) -> [u8; 82] {
 fn frame_with_qpc_3(id: u64, sequence: u8, dbc: u8) -> [u8; 82] {
     let mut frame = frame_of(id, sequence, dbc);
     frame[44] = 0x18;
+    frame
+}
+
+// The same with tag 0: all from byte 42 on is payload, where a CIP header with DBS 9, FN 3, SPH 1 and DBC 99 seems to stand.
+fn camera_frame(id: u64, sequence: u8) -> [u8; 82] {
+    let mut frame = frame_of(id, sequence, 99);
+    frame[40] = 0x1f;
+    frame[43] = 9;
+    frame[44] = 0xc4;
+    frame
+}
+
+// The same with tag 2.
+fn frame_with_tag_2(id: u64, sequence: u8, dbc: u8) -> [u8; 82] {
+    let mut frame = frame_of(id, sequence, dbc);
+    frame[40] = 0x9f;
     frame
 }
 
@@ -491,6 +536,160 @@ fn show_two_limits() {
     show_0_and_1(d);
 }
 
+// ---- Frames with and without a CIP header, to a record lent alone
+
+fn judge_lent(last: Record, frame: &[u8]) -> Record {
+    let alone = receive_alone(last, frame, 1000);
+    let receipt = alone.receipt;
+    show_receipt(receipt, frame, 1000);
+    show_flags(receipt);
+    let after = alone.after;
+    show_record(0, after);
+    show_kept(after);
+    after
+}
+
+fn judge_deck(last: Record, sequence: u8, dbc: u8) -> Record {
+    let frame = frame_of(5, sequence, dbc);
+    judge_lent(last, &frame)
+}
+
+fn judge_camera_of(last: Record, id: u64, sequence: u8) -> Record {
+    let frame = camera_frame(id, sequence);
+    judge_lent(last, &frame)
+}
+
+fn judge_camera(last: Record, sequence: u8) -> Record {
+    judge_camera_of(last, 5, sequence)
+}
+
+fn judge_tag_2(last: Record, sequence: u8, dbc: u8) -> Record {
+    let frame = frame_with_tag_2(5, sequence, dbc);
+    judge_lent(last, &frame)
+}
+
+// The format flag at each change of the tag, and the count kept over two frames without one.
+fn show_both_tags() {
+    say(b"# tags 0, 1, 0, 0, 1, 1\n");
+    let a = judge_camera(stream::admitted_within(5, LARGEST_LIMIT), 255);
+    let b = judge_deck(a, 0, 250);
+    let c = judge_camera(b, 1);
+    let d = judge_camera(c, 2);
+    let e = judge_deck(d, 3, 2);
+    judge_deck(e, 4, 10);
+}
+
+fn show_cameras_alone() {
+    say(b"# tag 0 alone: the sequence is judged, and no count\n");
+    let a = judge_camera(stream::admitted_within(5, LARGEST_LIMIT), 254);
+    let b = judge_camera(a, 255);
+    let c = judge_camera(b, 0);
+    judge_camera(c, 2);
+}
+
+fn show_first_count() {
+    say(b"# tag 0, then the first count of all, then a wrong one\n");
+    let a = judge_camera(stream::admitted_within(5, LARGEST_LIMIT), 1);
+    let b = judge_deck(a, 2, 200);
+    judge_deck(b, 3, 209);
+}
+
+fn show_count_kept() {
+    say(b"# the count over a frame with tag 0: right, then wrong\n");
+    let a = judge_deck(stream::admitted_within(5, LARGEST_LIMIT), 1, 10);
+    let b = judge_camera(a, 2);
+    let c = judge_deck(b, 3, 18);
+    let d = judge_camera(c, 4);
+    judge_deck(d, 5, 25);
+}
+
+fn show_count_0() {
+    say(b"# the count 0 is expected too\n");
+    let a = judge_deck(stream::admitted_within(5, LARGEST_LIMIT), 1, 248);
+    let b = judge_camera(a, 2);
+    judge_deck(b, 3, 1);
+}
+
+// Nothing seen, and yet a count expected after tag 1. No history gives this record.
+fn count_before_all() -> Record {
+    let mut record = stream::admitted_within(5, LARGEST_LIMIT);
+    record.next_dbc = 9;
+    record.tag = 1;
+    record.dbc_expected = true;
+    record
+}
+
+fn show_count_before_all() {
+    say(b"# a count expected before the first frame: tag 0 first, then tag 1\n");
+    let a = judge_camera(count_before_all(), 1);
+    judge_deck(a, 2, 200);
+    say(b"# the same record: tag 1 first\n");
+    let b = judge_deck(count_before_all(), 1, 200);
+    judge_deck(b, 2, 208);
+}
+
+// 12 and 15, each between two frames of the stream.
+fn show_refused_between() {
+    say(b"# refused frames between the tags\n");
+    let a = judge_deck(stream::admitted_within(5, LARGEST_LIMIT), 1, 10);
+    let b = judge_tag_2(a, 2, 99);
+    let c = judge_camera_of(b, 6, 2);
+    let d = judge_camera(c, 2);
+    let e = judge_tag_2(d, 3, 99);
+    judge_deck(e, 3, 18);
+}
+
+// ---- The same to a table by value
+
+fn judge_in(records: [Record; 64], frame: &[u8]) -> [Record; 64] {
+    let received = table::receive_in(records, frame, 1000);
+    let receipt = received.receipt;
+    show_receipt(receipt, frame, 1000);
+    show_flags(receipt);
+    let after = received.table;
+    after
+}
+
+fn judge_deck_in(records: [Record; 64], id: u64, sequence: u8, dbc: u8) -> [Record; 64] {
+    let frame = frame_of(id, sequence, dbc);
+    judge_in(records, &frame)
+}
+
+fn judge_camera_in(records: [Record; 64], id: u64, sequence: u8) -> [Record; 64] {
+    let frame = camera_frame(id, sequence);
+    judge_in(records, &frame)
+}
+
+fn show_kept_0_and_1(records: [Record; 64]) {
+    show_record(0, records[0]);
+    show_kept(records[0]);
+    show_record(1, records[1]);
+    show_kept(records[1]);
+}
+
+// Each is judged by its own record: the camera's third frame shows a loss, and the deck's a wrong count.
+fn show_side_by_side() {
+    say(b"# tag 0 and tag 1 side by side\n");
+    let a = admit(admit(table::unused_table(), 1), 2);
+    let b = judge_deck_in(judge_camera_in(a, 1, 1), 2, 7, 100);
+    let c = judge_deck_in(judge_camera_in(b, 1, 2), 2, 8, 108);
+    let d = judge_deck_in(judge_camera_in(c, 1, 4), 2, 9, 117);
+    show_kept_0_and_1(d);
+}
+
+// Removal forgets the tag and the count.
+fn show_admitted_again() {
+    say(b"# removed, and admitted again\n");
+    let a = judge_deck_in(admit(table::unused_table(), 5), 5, 1, 10);
+    show_kept(a[0]);
+    let b = remove(a, 5);
+    show_kept(b[0]);
+    let c = judge_camera_in(admit(b, 5), 5, 9);
+    show_kept(c[0]);
+    let d = judge_deck_in(c, 5, 10, 77);
+    show_kept(d[0]);
+}
+
 fn main() {
     show_too_long();
     show_alone();
@@ -504,4 +703,13 @@ fn main() {
     show_limits_full();
     show_limit_kept();
     show_two_limits();
+    show_both_tags();
+    show_cameras_alone();
+    show_first_count();
+    show_count_kept();
+    show_count_0();
+    show_count_before_all();
+    show_refused_between();
+    show_side_by_side();
+    show_admitted_again();
 }

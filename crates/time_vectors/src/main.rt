@@ -1,5 +1,5 @@
 // Presentation times at zero, at both ends of the offset, at the wraps of L and T, at both ends of the arrival time, and about half a wrap
-// away: each is reckoned and printed. Then about a stream's limit; and which stamp is read, and from which block.
+// away: each is reckoned and printed. Then about a stream's limit; which stamp is read, and from which block; and without a CIP header.
 use frame::layout::Avtp;
 use frame::layout::Cip;
 use frame::layout::Ethernet;
@@ -8,6 +8,7 @@ use frame::layout::Header;
 use frame::layout::Stream;
 use libc::STDOUT_FILENO;
 use presentation::Kind;
+use presentation::LARGEST_LIMIT;
 use presentation::Timing;
 
 fn say(bytes: &[u8]) {
@@ -56,8 +57,8 @@ fn show_within(arrival_time: u64, stamp: u32, limit: u32) {
     show_timing(timing);
 }
 
-// The header of a sound frame with tv 0 or 1 and AVTP timestamp 1,500.
-fn header(tv: bool) -> Header {
+// The header of a sound frame with this tag, tv 0 or 1 and AVTP timestamp 1,500.
+fn header(tag: u8, tv: bool) -> Header {
     Header {
         ethernet: Ethernet {
             destination: 0x91e0_f000_fe01,
@@ -84,7 +85,7 @@ fn header(tv: bool) -> Header {
             timestamp: 1500,
             gateway_info: 0,
             data_length: 16,
-            tag: 1,
+            tag,
             channel: 31,
             sy: 0,
         },
@@ -105,6 +106,21 @@ fn cip(sph: bool, dbs: u8, fraction_number: u8, dbc: u8) -> Cip {
     }
 }
 
+// What is read where there is no CIP header.
+fn no_cip() -> Cip {
+    Cip {
+        sid: 0,
+        dbs: 0,
+        fraction_number: 0,
+        qpc: 0,
+        sph: false,
+        dbc: 0,
+        fmt: 0,
+        fdf: 0,
+        low_half: 0,
+    }
+}
+
 fn show_timing(timing: Timing) {
     let k = timing.kind;
     kind(k);
@@ -115,7 +131,7 @@ fn show_timing(timing: Timing) {
 
 fn fields_of(sph: bool, tv: bool) -> Fields {
     Fields {
-        header: header(tv),
+        header: header(1, tv),
         cip: cip(sph, 1, 0, 0),
     }
 }
@@ -141,6 +157,19 @@ fn show_stamp_within(sph: bool, tv: bool, payload: &[u8], limit: u32) {
     show_timing(timing);
 }
 
+// The stamp of a frame with tag 0.
+fn show_camera(tv: bool, payload: &[u8], limit: u32) {
+    let fields = Fields {
+        header: header(0, tv),
+        cip: no_cip(),
+    };
+    let timing = presentation::judge_time_within(1000, fields, payload, limit);
+    say(b"tag=0 ");
+    show_fields(false, tv, payload);
+    number(b" limit=", limit as u64);
+    show_timing(timing);
+}
+
 fn show_blocks(dbs: u8, fraction_number: u8, dbc: u8, quadlets: u8) {
     number(b"DBS=", dbs as u64);
     number(b" FN=", fraction_number as u64);
@@ -155,7 +184,7 @@ fn show_start(all: &[u8], dbs: u8, fraction_number: u8, dbc: u8, quadlets: u8) {
         return;
     }
     let fields = Fields {
-        header: header(true),
+        header: header(1, true),
         cip: cip(true, dbs, fraction_number, dbc),
     };
     let timing = presentation::judge_time(1000, fields, &all[0..end]);
@@ -166,7 +195,7 @@ fn show_start(all: &[u8], dbs: u8, fraction_number: u8, dbc: u8, quadlets: u8) {
 // The fourth block opens a source packet, and its stamp is held to the limit.
 fn show_start_within(all: &[u8], limit: u32) {
     let fields = Fields {
-        header: header(true),
+        header: header(1, true),
         cip: cip(true, 1, 2, 5),
     };
     let timing = presentation::judge_time_within(1000, fields, all, limit);
@@ -267,6 +296,16 @@ fn show_stamps_within() {
     show_stamp_within(true, true, b"\x00\x00\x03\x00", 0);
 }
 
+// Without a CIP header the stamp is the AVTP timestamp, whatever the payload starts with.
+fn show_cameras() {
+    show_camera(false, b"", LARGEST_LIMIT);
+    show_camera(true, b"", LARGEST_LIMIT);
+    show_camera(true, b"\x00", LARGEST_LIMIT);
+    show_camera(false, b"\x00\x00\x0b\xb8", LARGEST_LIMIT);
+    show_camera(true, b"\x00\x00\x0b\xb8", LARGEST_LIMIT);
+    show_camera(true, b"\x00\x00\x0b\xb8", 499);
+}
+
 fn show_starts(all: &[u8]) {
     show_start(all, 1, 0, 0, 9);
     show_start(all, 1, 0, 5, 9);
@@ -305,6 +344,7 @@ fn main() {
     show_other_kinds();
     show_stamps();
     show_stamps_within();
+    show_cameras();
     // Each quadlet is L and its own number, so that the offset shown is the number of the quadlet that was read.
     show_starts(
         b"\x00\x00\x03\xe8\x00\x00\x03\xe9\x00\x00\x03\xea\x00\x00\x03\xeb\x00\x00\x03\xec\x00\x00\x03\xed\x00\x00\x03\xee\x00\x00\x03\xef\x00\x00\x03\xf0",

@@ -1,5 +1,5 @@
 -- What the verdict of the checks says of a write's answer and of the output. Assumes nothing.
-use Prim.Native.Nat.{ℕ, _+_}
+use Prim.Native.Nat.{ℕ}
 use mathlib.Core.Path.{_≡_, refl, sym, ap, _∙_}
 use mathlib.Core.List.{List, _++_}
 use lib.ListN.{length, drop}
@@ -11,7 +11,7 @@ use Rattle.writer.specs.declared.Written.the-variants.{Sent, Refused}
 use Rattle.refusal.specs.declared.Verdict.{Verdict}
 use Rattle.refusal.specs.declared.Verdict.the-variants as verdict
 use Rattle.writer.specs.declared.given.Given.{Given}
-use Rattle.writer.specs.Frames.{frameBytes}
+use Rattle.writer.specs.Frames.{frameLength, frameBytes}
 use Rattle.writer.specs.Writing.{writeRefusal, advanced, writeAnswer, writing, output}
 
 module _ (s : Sender) (g : Given) (payload out : List ℕ) where
@@ -20,7 +20,7 @@ module _ (s : Sender) (g : Given) (payload out : List ℕ) where
   unfolding writing output
   refuses r e = let p = positive r in rw (← e, p .1) (refl, refl)
 
-  pub sends : {t : Sender} {exit : List ℕ} → writeRefusal g (length payload) (length out) ≡ 0 → t ≡ advanced s g payload → exit ≡ frameBytes s g payload ++ drop (50 + length payload) out
+  pub sends : {t : Sender} {exit : List ℕ} → writeRefusal g (length payload) (length out) ≡ 0 → t ≡ advanced s g payload → exit ≡ frameBytes s g payload ++ drop (frameLength (g .stream .tag) (length payload)) out
       → (writeAnswer (Sent t) ≡ writing s g payload (length out)) × (exit ≡ output s g payload out)
   unfolding writing output
   sends e f h = rw (e, f, h) (refl, refl)

@@ -1,6 +1,7 @@
 -- Runs of stores: the bytes of a number stored from the last to the first, and a payload copied behind a header. Assumes nothing.
 use Prim.Native.Nat.{ℕ, suc, _+_, _-_, _/_, _^_, _<_, _≤_}
-use mathlib.Core.Path.{_≡_, refl, sym, ap, _∙_}
+use mathlib.Core.Path.{_≡_, refl, sym, ap, subst, _∙_}
+use mathlib.Core.Bool.{Bool}
 use mathlib.Core.List.{List, [], _∷_, _++_, append-assoc, append-nil}
 use native.Mathlib.Nat.{zero-add}
 use native.Mathlib.Omega.{arith}
@@ -12,6 +13,10 @@ use borrow.Rule.Slice.PartMut.{putMid}
 use Rattle.wire.specs.Bits.{width}
 use Rattle.wire.specs.Numbers.{octets, bytes}
 use Rattle.wire.proofs.Bits.{masked}
+use Rattle.frame.specs.Layout.{hasCip, payloadStart}
+use Rattle.writer.specs.declared.Sender.{Sender}
+use Rattle.writer.specs.declared.given.Given.{Given}
+use Rattle.writer.specs.Frames.{headerBytes, cipBytes, frameLength, frameBytes}
 
 set-sets : (l : List ℕ) (i b j : ℕ) (bs : List ℕ) → i < j → set (sets l j bs) i b ≡ sets (set l i b) j bs
 set-sets l i b j [] h = refl
@@ -24,6 +29,14 @@ next-byte l n i j = rw (masked (width (octets j)) 8 n) (set-sets l i _ (suc i) (
 -- and this is what is left above it
 pub next-rest : (n j : ℕ) → n / 2 ^ width (octets j) / 2 ^ 8 ≡ n / 2 ^ width (octets (suc j))
 next-rest n j = shr-shr n (width (octets j)) 8 ∙ ap (λ (k : ℕ). n / 2 ^ k) (omega arith)
+
+-- a frame by whether it has a CIP header
+pub frame-as : (s : Sender) (g : Given) (p out : List ℕ) (has : Bool) → hasCip (g .stream .tag) ≡ has → {o : List ℕ}
+    → o ≡ (headerBytes s g (length p) ++ cipBytes has (g .cip) (s .dbc) ++ p) ++ drop (payloadStart has + length p) out
+    → o ≡ frameBytes s g p ++ drop (frameLength (g .stream .tag) (length p)) out
+unfolding frameBytes
+frame-as s g p out has e {o} =
+    subst (λ (b : Bool). o ≡ (headerBytes s g (length p) ++ cipBytes b (g .cip) (s .dbc) ++ p) ++ drop (payloadStart b + length p) out) (sym e)
 
 -- a header h of k bytes stored at the front, and a payload p copied to the part behind it
 pub behind : (k : ℕ) (h p out o₁ o₂ : List ℕ) → length h ≡ k → k + length p ≤ length out → o₁ ≡ sets out 0 h

@@ -1,10 +1,11 @@
--- The bytes of a written frame (document 01, Frame layout). The rows are those by which the reader takes the fields out.
+-- The bytes of a written frame (document 01, Frame layout; request #108). The rows are those by which the reader takes the fields out.
 use Prim.Native.Nat.{ℕ, _+_}
+use mathlib.Core.Bool.{Bool, cond}
 use mathlib.Core.List.{List, [], _∷_, _++_}
 use lib.ListN.{length}
 use Rattle.wire.specs.Bits.{pack, bit}
 use Rattle.wire.specs.Numbers.{bytes}
-use Rattle.frame.specs.Layout.{vlanRow, subtypeRow, validRow, uncertainRow, packetRow, sourceRow, fractionRow, formatRow}
+use Rattle.frame.specs.Layout.{vlanRow, subtypeRow, validRow, uncertainRow, packetRow, sourceRow, fractionRow, formatRow, hasCip, cipLength, payloadStart}
 use Rattle.writer.specs.declared.Sender.{Sender}
 use Rattle.writer.specs.declared.given.EthernetFields.{EthernetFields}
 use Rattle.writer.specs.declared.given.AvtpFields.{AvtpFields}
@@ -32,7 +33,7 @@ uncertainValues m = 0 ∷ bit (m .tu) ∷ []
 
 -- tag, channel, tcode, sy
 abbrev pub packetValues : StreamFields → List ℕ
-packetValues o = 1 ∷ o .channel ∷ 10 ∷ o .sy ∷ []
+packetValues o = o .tag ∷ o .channel ∷ 10 ∷ o .sy ∷ []
 
 -- indicator, SID
 abbrev pub sourceValues : CipFields → List ℕ
@@ -89,14 +90,27 @@ formatBytes f =
     ++ bytes 1 (f .fdf)
     ++ bytes 2 (f .«low_half»)
 
--- the 50 bytes in front of a payload of n bytes; stream_data_length counts the CIP header too
+-- bytes 42 to 49: the CIP header, where there is one
+abbrev pub cipBytes : Bool → CipFields → ℕ → List ℕ
+cipBytes has f dbc = cond has (sourceBytes f dbc ++ formatBytes f) []
+
+-- stream_data_length for a payload of n bytes: a CIP header is counted too
+abbrev pub dataLength : ℕ → ℕ → ℕ
+dataLength tag n = n + cipLength (hasCip tag)
+
+-- the 42 bytes with which every frame starts
 unfoldable pub headerBytes : Sender → Given → ℕ → List ℕ
 headerBytes s g n =
     ethernetBytes (g .ethernet)
     ++ avtpBytes (s .sequence) (g .avtp)
-    ++ streamBytes (g .stream) (n + 8)
-    ++ sourceBytes (g .cip) (s .dbc)
-    ++ formatBytes (g .cip)
+    ++ streamBytes (g .stream) (dataLength (g .stream .tag) n)
 
 unfoldable pub frameBytes : Sender → Given → List ℕ → List ℕ
-frameBytes s g payload = headerBytes s g (length payload) ++ payload
+frameBytes s g payload =
+    headerBytes s g (length payload)
+    ++ cipBytes (hasCip (g .stream .tag)) (g .cip) (s .dbc)
+    ++ payload
+
+-- and how many they are: 42, 8 of a CIP header where there is one, and the payload
+abbrev pub frameLength : ℕ → ℕ → ℕ
+frameLength tag n = payloadStart (hasCip tag) + n

@@ -21,11 +21,13 @@ pub struct StreamFields {
     pub id: u64,
     pub timestamp: u32,
     pub gateway_info: u32,
+    // 1: with a CIP header, 0: without
+    pub tag: u8,
     pub channel: u8,
     pub sy: u8,
 }
 
-// The CIP header, without its block count.
+// The CIP header, without its block count. Every field is 0 or no with tag 0.
 pub struct CipFields {
     pub sid: u8,
     pub dbs: u8,

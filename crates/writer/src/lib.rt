@@ -27,10 +27,10 @@ pub enum Written {
 
 // The sender after a frame with this payload.
 fn advance(sender: Sender, given: Given, payload: &[u8]) -> Sender
-    requires { ⌜ length (now payload) ≤ 1468 ⌝ }
+    requires { ⌜ length (now payload) ≤ 1476 ⌝ }
     ensures { λ r. ⌜ r ≡ advanced sender given (now (payload .entry)) ⌝ }
 {
-    let blocks = frame::blocks(payload, given.cip.dbs);
+    let blocks = frame::blocks(given.stream.tag, payload, given.cip.dbs);
     Sender {
         sequence: ((sender.sequence as usize + 1) % 256) as u8,
         dbc: ((sender.dbc as usize + blocks) % 256) as u8,

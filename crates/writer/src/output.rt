@@ -14,8 +14,8 @@ ghost use lib.ListN.{length, drop};
 ghost use lib.Seq.{sets};
 ghost use Rattle.wire.specs.Bits.{Fit};
 ghost use Rattle.wire.specs.Numbers.{bytes};
-ghost use Rattle.frame.specs.Layout.{vlanRow, packetRow, sourceRow, fractionRow, formatRow};
-ghost use Rattle.writer.specs.Frames.{vlanValues, packetValues, sourceValues, fractionValues, formatValues, ethernetBytes, avtpBytes, streamBytes, sourceBytes, formatBytes, frameBytes};
+ghost use Rattle.frame.specs.Layout.{vlanRow, packetRow, sourceRow, fractionRow, formatRow, hasCip, cipLength};
+ghost use Rattle.writer.specs.Frames.{vlanValues, packetValues, sourceValues, fractionValues, formatValues, ethernetBytes, avtpBytes, streamBytes, sourceBytes, formatBytes, headerBytes, cipBytes, frameLength, frameBytes};
 ghost use Rattle.writer.specs.Writing.{fieldsFit};
 
 // Writes the lowest `k` bytes of `n` from place `at` on, the most significant first.
@@ -84,18 +84,45 @@ fn put_format(out: &mut [u8], cip: CipFields)
     put(out, 48, 2, cip.low_half as u64);
 }
 
-// Writes the frame at the front of `out`, and nothing behind it.
-pub(crate) fn put_frame(sender: Sender, given: Given, payload: &[u8], out: &mut [u8])
-    requires { ⌜ fieldsFit given ≡ true ⌝ }
-    requires { ⌜ length (now payload) ≤ 1468 ⌝ }
-    requires { ⌜ 50 + length (now payload) ≤ length (now out) ⌝ }
-    ensures { λ _. ⌜ now (out .exit) ≡ frameBytes sender given (now (payload .entry)) ++ drop (50 + length (now (payload .entry))) (now (out .entry)) ⌝ }
+// How many bytes the CIP header has in a frame with this tag.
+pub(crate) fn cip_length(tag: u8) -> usize
+    ensures { λ r. ⌜ (r ≡ cipLength (hasCip tag)) × (r ≤ 8) ⌝ }
+{
+    if tag == 1 { 8 } else { 0 }
+}
+
+// The 42 bytes with which every frame starts, for `n` bytes of payload.
+fn put_header(out: &mut [u8], sender: Sender, given: Given, n: usize)
+    requires { ⌜ (42 ≤ length (now out)) × (n ≤ 1476) ⌝ }
+    requires { ⌜ Fit vlanRow (vlanValues (given .ethernet)) × Fit packetRow (packetValues (given .stream)) ⌝ }
+    ensures { λ _. ⌜ now (out .exit) ≡ sets (now (out .entry)) 0 (headerBytes sender given n) ⌝ }
 {
     put_ethernet(out, given.ethernet);
     put_avtp(out, sender.sequence, given.avtp);
-    // stream_data_length counts the CIP header too
-    put_stream(out, given.stream, payload.len() + 8);
-    put_source(out, given.cip, sender.dbc);
-    put_format(out, given.cip);
+    // stream_data_length counts a CIP header too
+    put_stream(out, given.stream, n + cip_length(given.stream.tag));
+}
+
+fn put_cip(out: &mut [u8], cip: CipFields, dbc: u8)
+    requires { ⌜ (50 ≤ length (now out)) × Fit sourceRow (sourceValues cip) × Fit fractionRow (fractionValues cip) × Fit formatRow (formatValues cip) ⌝ }
+    ensures { λ _. ⌜ now (out .exit) ≡ sets (now (out .entry)) 42 (cipBytes true cip dbc) ⌝ }
+{
+    put_source(out, cip, dbc);
+    put_format(out, cip);
+}
+
+// Writes the frame at the front of `out`, and nothing behind it.
+pub(crate) fn put_frame(sender: Sender, given: Given, payload: &[u8], out: &mut [u8])
+    requires { ⌜ fieldsFit given ≡ true ⌝ }
+    requires { ⌜ length (now payload) ≤ 1476 ⌝ }
+    requires { ⌜ frameLength (given .stream .tag) (length (now payload)) ≤ length (now out) ⌝ }
+    ensures { λ _. ⌜ now (out .exit) ≡ frameBytes sender given (now (payload .entry)) ++ drop (frameLength (given .stream .tag) (length (now (payload .entry)))) (now (out .entry)) ⌝ }
+{
+    put_header(out, sender, given, payload.len());
+    if given.stream.tag != 1 {
+        bytes::copy(payload, &mut out[42..]);
+        return;
+    }
+    put_cip(out, given.cip, sender.dbc);
     bytes::copy(payload, &mut out[50..]);
 }

@@ -48,7 +48,7 @@ pub(crate) fn packet(stream: StreamFields) -> u64
     ensures { λ r. ⌜ r ≡ pack packetRow (packetValues stream) ⌝ }
 {
     join(
-        join(join(1, 6, stream.channel as u64), 4, 10),
+        join(join(stream.tag as u64, 6, stream.channel as u64), 4, 10),
         4,
         stream.sy as u64,
     )

@@ -38,7 +38,7 @@ fn stream(s: Stream, o: StreamFields, n: usize) -> bool {
         & (s.timestamp == o.timestamp)
         & (s.gateway_info == o.gateway_info)
         & (s.data_length as usize == n)
-        & (s.tag == 1)
+        & (s.tag == o.tag)
         & (s.channel == o.channel)
         & (s.sy == o.sy)
 }
@@ -55,10 +55,19 @@ fn cip(c: Cip, f: CipFields, dbc: u8) -> bool {
         & (c.low_half == f.low_half)
 }
 
+// The block count that is read: 0 with tag 0, since there is none in the frame.
+fn block_count(tag: u8, dbc: u8) -> u8 {
+    if tag == 1 { dbc } else { 0 }
+}
+
 // `data_length` is what stream_data_length has to be.
 pub(crate) fn fields(read: Fields, sender: Sender, given: Given, data_length: usize) -> bool {
     ethernet(read.header.ethernet, given.ethernet)
         & avtp(read.header.avtp, sender.sequence, given.avtp)
         & stream(read.header.stream, given.stream, data_length)
-        & cip(read.cip, given.cip, sender.dbc)
+        & cip(
+            read.cip,
+            given.cip,
+            block_count(given.stream.tag, sender.dbc),
+        )
 }

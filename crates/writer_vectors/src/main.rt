@@ -1,7 +1,9 @@
 // Writes a frame for every edge of every field, of the payload's length and of each refusal, reads it back, and prints a line for each.
+mod again;
 mod agree;
 mod show;
 
+use again::again;
 use show::show;
 use writer::Sender;
 use writer::given::AvtpFields;
@@ -10,7 +12,7 @@ use writer::given::EthernetFields;
 use writer::given::Given;
 use writer::given::StreamFields;
 
-// Every field 0, but for the bit that makes the destination a group address, and DBS 1.
+// Every field 0, but for the bit that makes the destination a group address, tag 1 and DBS 1.
 fn lowest_ethernet() -> EthernetFields {
     EthernetFields {
         destination: 0x0100_0000_0000,
@@ -34,6 +36,7 @@ fn lowest_stream() -> StreamFields {
         id: 0,
         timestamp: 0,
         gateway_info: 0,
+        tag: 1,
         channel: 0,
         sy: 0,
     }
@@ -61,8 +64,8 @@ fn with_cip(cip: CipFields) -> Given {
     }
 }
 
-// Every field at its largest value, which is 0 for QPC, but for the bit that would make the source a group address.
-fn largest() -> Given {
+// Every field in front of a CIP header at its largest value, but for the bit that would make the source a group address.
+fn largest_with(tag: u8, cip: CipFields) -> Given {
     Given {
         ethernet: EthernetFields {
             destination: 0xffff_ffff_ffff,
@@ -80,10 +83,19 @@ fn largest() -> Given {
             id: 0xffff_ffff_ffff_ffff,
             timestamp: 0xffff_ffff,
             gateway_info: 0xffff_ffff,
+            tag,
             channel: 63,
             sy: 15,
         },
-        cip: CipFields {
+        cip,
+    }
+}
+
+// And every field of the CIP header; the largest value of QPC is 0.
+fn largest() -> Given {
+    largest_with(
+        1,
+        CipFields {
             sid: 63,
             dbs: 255,
             fraction_number: 3,
@@ -93,7 +105,7 @@ fn largest() -> Given {
             fdf: 255,
             low_half: 65535,
         },
-    }
+    )
 }
 
 fn start() -> Sender {
@@ -329,9 +341,159 @@ fn two_apply() {
     size_edge(b"34 and 35", 1, 1472, 1521);
 }
 
+// The fields of a CIP header that is not there.
+fn no_cip() -> CipFields {
+    let mut cip = lowest_cip();
+    cip.dbs = 0;
+    cip
+}
+
+fn tagged(tag: u8) -> StreamFields {
+    let mut stream = lowest_stream();
+    stream.tag = tag;
+    stream
+}
+
+// The lowest fields with a tag and these fields of a CIP header.
+fn with_tag(tag: u8, cip: CipFields) -> Given {
+    Given {
+        ethernet: lowest_ethernet(),
+        avtp: lowest_avtp(),
+        stream: tagged(tag),
+        cip,
+    }
+}
+
+// A payload of n bytes with tag 0.
+fn bare_edge(name: &[u8], n: usize, room: usize) {
+    show(name, start(), with_tag(0, no_cip()), n, room);
+}
+
+// With tag 0 a payload has any length up to 1,476 bytes, and 33 is not asked.
+fn bare_payloads() {
+    bare_edge(b"tag 0, no payload", 0, 42);
+    bare_edge(b"tag 0, payload 1", 1, 1600);
+    bare_edge(b"tag 0, payload 2", 2, 1600);
+    bare_edge(b"tag 0, payload 3", 3, 1600);
+    bare_edge(b"tag 0, payload 1024", 1024, 1600);
+    bare_edge(b"tag 0, payload 1469", 1469, 1600);
+    bare_edge(b"tag 0, payload 1476", 1476, 1518);
+}
+
+// 34 and 35 with the sizes of tag 0.
+fn bare_lengths() {
+    bare_edge(b"tag 0, payload 1477", 1477, 1600);
+    bare_edge(b"tag 0, room 44 of 45", 3, 44);
+    bare_edge(b"tag 0, room 45 of 45", 3, 45);
+    bare_edge(b"tag 0, room 41 of 42", 0, 41);
+}
+
+fn tag_edge(name: &[u8], tag: u8) {
+    edge(name, with_tag(tag, no_cip()));
+}
+
+// 32: a tag above 1.
+fn tag_edges() {
+    tag_edge(b"tag 2", 2);
+    tag_edge(b"tag 3", 3);
+    tag_edge(b"tag 4", 4);
+    tag_edge(b"tag 255", 255);
+}
+
+fn bare_cip_edge(name: &[u8], cip: CipFields) {
+    edge(name, with_tag(0, cip));
+}
+
+// 32 too: tag 0 with a field of a CIP header, the first quadlet and the second.
+fn bare_source_fields() {
+    let mut sid = no_cip();
+    sid.sid = 1;
+    bare_cip_edge(b"tag 0, sid 1", sid);
+    let mut dbs = no_cip();
+    dbs.dbs = 1;
+    bare_cip_edge(b"tag 0, dbs 1", dbs);
+    let mut fraction = no_cip();
+    fraction.fraction_number = 1;
+    bare_cip_edge(b"tag 0, fn 1", fraction);
+    let mut qpc = no_cip();
+    qpc.qpc = 1;
+    bare_cip_edge(b"tag 0, qpc 1", qpc);
+    let mut sph = no_cip();
+    sph.sph = true;
+    bare_cip_edge(b"tag 0, sph", sph);
+}
+
+fn bare_format_fields() {
+    let mut fmt = no_cip();
+    fmt.fmt = 1;
+    bare_cip_edge(b"tag 0, fmt 1", fmt);
+    let mut fdf = no_cip();
+    fdf.fdf = 1;
+    bare_cip_edge(b"tag 0, fdf 1", fdf);
+    let mut low = no_cip();
+    low.low_half = 1;
+    bare_cip_edge(b"tag 0, low half 1", low);
+}
+
+// Where two numbers apply with tag 0, the lower one answers.
+fn bare_two_apply() {
+    let mut address = lowest_ethernet();
+    address.destination = 0;
+    edge(
+        b"tag 0, 31 and 32",
+        Given {
+            ethernet: address,
+            avtp: lowest_avtp(),
+            stream: tagged(0),
+            cip: lowest_cip(),
+        },
+    );
+    let field = with_tag(0, lowest_cip());
+    show(b"tag 0, 32 and 34", start(), field, 1477, 1600);
+    show(b"tag 0, 32 and 35", start(), field, 3, 44);
+    bare_edge(b"tag 0, 34 and 35", 1477, 1518);
+}
+
 // The next write of a sender.
 fn sent_on(name: &[u8], sender: Sender, n: usize) -> Sender {
     show(name, sender, with_cip(lowest_cip()), n, 1600)
+}
+
+// The same with tag 0.
+fn sent_bare(name: &[u8], sender: Sender, n: usize) -> Sender {
+    show(name, sender, with_tag(0, no_cip()), n, 1600)
+}
+
+// One sender's writes with both tags: a frame with tag 0 moves the sequence number on and leaves the block count.
+fn one_mixed_sender() {
+    let first = Sender {
+        sequence: 253,
+        dbc: 250,
+    };
+    let second = sent_bare(b"tag 0 first", first, 1024);
+    let third = sent_on(b"tag 1, 8 blocks", second, 32);
+    let fourth = sent_bare(b"tag 0, sequence 255", third, 1476);
+    let fifth = sent_bare(b"tag 0 refused between", fourth, 1477);
+    let sixth = sent_bare(b"tag 0, sequence 0", fifth, 3);
+    sent_on(b"tag 1, 1 block", sixth, 4);
+}
+
+// Frames read and written again.
+fn written_back() {
+    let sender = Sender {
+        sequence: 200,
+        dbc: 100,
+    };
+    again(b"tag 1 again", sender, with_cip(lowest_cip()), 4);
+    again(b"largest again", sender, largest(), 1020);
+    again(b"tag 0, no payload again", sender, with_tag(0, no_cip()), 0);
+    again(b"tag 0, payload 3 again", sender, with_tag(0, no_cip()), 3);
+    again(
+        b"tag 0, largest again",
+        sender,
+        largest_with(0, no_cip()),
+        1476,
+    );
 }
 
 // One sender's writes: both numbers wrap, a refused write leaves them, and a frame with no blocks leaves the block count.
@@ -363,4 +525,19 @@ fn main() {
     lengths();
     two_apply();
     one_sender();
+    bare_payloads();
+    show(
+        b"tag 0, largest",
+        start(),
+        largest_with(0, no_cip()),
+        1476,
+        1600,
+    );
+    bare_lengths();
+    tag_edges();
+    bare_source_fields();
+    bare_format_fields();
+    bare_two_apply();
+    one_mixed_sender();
+    written_back();
 }

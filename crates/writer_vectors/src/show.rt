@@ -7,8 +7,9 @@ use writer::Written;
 use writer::given::Given;
 ghost use lib.ListN.{length};
 ghost use mathlib.Core.Path.{_≡_};
+ghost use Prim.Native.Nat.{_≤_};
 
-fn text(s: &[u8]) {
+pub(crate) fn text(s: &[u8]) {
     io::write_all(STDOUT_FILENO, s);
 }
 
@@ -29,19 +30,28 @@ fn answer(number: u8, sender: Sender) {
     decimal(sender.dbc as u64);
 }
 
-// The 50 bytes of the header.
-fn header(out: &[u8]) {
+// The 42 bytes with which every frame starts, and the 8 of a CIP header.
+fn header(tag: u8, out: &[u8]) {
     text(b" header ");
     hex(wire::be64(out, 0), 16);
     hex(wire::be64(out, 8), 16);
     hex(wire::be64(out, 16), 16);
     hex(wire::be64(out, 24), 16);
     hex(wire::be64(out, 32), 16);
-    hex(wire::be64(out, 40), 16);
-    hex(wire::be16(out, 48) as u64, 4);
+    hex(wire::be16(out, 40) as u64, 4);
+    if tag == 1 {
+        hex(wire::be64(out, 42), 16);
+    }
 }
 
-fn verdict(same: bool) {
+// Where the payload starts.
+pub(crate) fn payload_start(tag: u8) -> usize
+    ensures { λ r. ⌜ (42 ≤ r) × (r ≤ 50) ⌝ }
+{
+    if tag == 1 { 50 } else { 42 }
+}
+
+pub(crate) fn verdict(same: bool) {
     if same {
         text(b" same");
     } else {
@@ -50,14 +60,14 @@ fn verdict(same: bool) {
 }
 
 // What stands in the output at first.
-fn blank() -> [u8; 1600]
+pub(crate) fn blank() -> [u8; 1600]
     ensures { λ r. ⌜ 1600 ≡ length r ⌝ }
 {
     [0xee; 1600]
 }
 
 // Are the bytes of the output from place `from` on as they were?
-fn untouched(out: &[u8], from: usize) -> bool {
+pub(crate) fn untouched(out: &[u8], from: usize) -> bool {
     let before = blank();
     let end = out.len();
     if end < from {
@@ -71,26 +81,28 @@ fn untouched(out: &[u8], from: usize) -> bool {
 
 // A frame that was written: its header, and whether its fields, its payload and what stands behind it are the same.
 fn sent(sender: Sender, given: Given, payload: &[u8], out: &[u8]) {
+    let tag = given.stream.tag;
+    let start = payload_start(tag);
     let n = payload.len();
-    let end = out.len();
-    if 1468 < n {
+    if 1476 < n {
         return;
     }
-    if end < 50 + n {
+    let end = start + n;
+    if out.len() < end {
         return;
     }
-    header(out);
-    let written = &out[0..50 + n];
+    header(tag, out);
+    let written = &out[0..end];
     let Reading::Accepted(fields) = frame::read(written) else {
         text(b" REFUSED\n");
         return;
     };
     text(b" fields");
-    verdict(agree::fields(fields, sender, given, n + 8));
+    verdict(agree::fields(fields, sender, given, end - 42));
     text(b" payload");
     verdict(check::same(frame::payload(written), payload));
     text(b" behind");
-    verdict(untouched(out, 50 + n));
+    verdict(untouched(out, end));
     text(b"\n");
 }
 

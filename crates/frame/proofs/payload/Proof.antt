@@ -4,7 +4,7 @@ use denote.Ref.{now}
 use borrow.Author.Needs.{needs}
 use Rattle.frame.specs.Reading.{payloadOf}
 use Rattle.refusal.proofs.First.{positive}
-use Rattle.frame.proofs.Answers.{refused-number, accepted-payload, accepted-there}
+use Rattle.frame.proofs.Answers.{refused-number, accepted-fields, accepted-payload, accepted-there}
 use Rattle.frame.proofs.payload.Statement.{statement}
 use Rattle.frame.proofs.payload.Tie as tie
 
@@ -18,8 +18,13 @@ returns c =
 
 returns-2 : tie.Need-returns-2
 returns-2 c =
-    let read = c .before .before .before .before in
-    (c .«data» .ensures .0 ∙ accepted-payload (now (read .before .before .args .frame)) (read .read .ensures) (c .before .before .fields .given .1), (c .«data» .ensures .1 .0, λ h. c .«data» .ensures .1 .1 (accepted-there (now (read .before .before .args .frame)) (read .read .ensures) (c .before .before .fields .given .1))))
+    let read = c .before .before .before .before .before in
+    let frame = now (read .before .before .args .frame) in
+    let accepted = c .before .before .before .fields .given .1 in
+    let place = c .«data» .ensures .1 .1 (accepted-there frame (read .read .ensures) accepted) in (
+      c .«data» .ensures .0 ∙ accepted-payload frame (read .read .ensures) accepted,
+      (c .«data» .ensures .1 .0, λ h. rw (← accepted-fields frame (read .read .ensures) accepted) place),
+    )
 
 pub payload-spec : {M : Type 1} → statement M
 payload-spec =

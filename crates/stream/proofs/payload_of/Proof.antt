@@ -9,7 +9,7 @@ use Rattle.stream.proofs.payload_of.Statement.{statement}
 use Rattle.stream.proofs.payload_of.Tie as tie
 
 returns : tie.Need-returns
-returns c = (c .«data» .ensures .0 ∙ rw (c .before .before .receipt .given .1) refl, rw (c .before .before .receipt .given .1) (c .«data» .ensures .1))
+returns c = let told = c .before .before .before .receipt .given .1 in (c .«data» .ensures .0 ∙ rw told refl, rw told (c .«data» .ensures .1))
 
 returns-2 : tie.Need-returns-2
 unfolding refusedWith

@@ -15,7 +15,7 @@ returns : tie.Need-returns
 unfolding served
 returns c =
     let step = c .before .before .before in
-    let a = step .before .before .before .args in
+    let a = step .before .before .before .before .args in
     ap (λ (s : Stepped). the-record s (a .fields))
     (step .step .ensures ∙ ap (λ (payload : List ℕ). stepped (a .last) (a .fields) payload (a .arrival-time)) (step .before .«data» .ensures .0))
   where

@@ -1,4 +1,5 @@
 use mathlib.Core.Path.{_≡_}
+use native.Mathlib.Omega.{arith}
 use denote.Ref.{now}
 use lib.ListN.{length}
 use borrow.Author.Needs.{needs}
@@ -22,12 +23,12 @@ passed c =
     allowed (a .sender) (a .given) (now (a .payload)) (now (a .out)) (check .check .ensures) (c .enum-told .given .1)
 
 put-frame-requires : tie.Need-put-frame-requires
-put-frame-requires c κs = let ok = accepted _ _ _ (passed (c .before)) in (ok .fits, (ok .short, ok .output))
+put-frame-requires c κs = let ok = accepted _ _ _ (passed (c .before)) in (ok .fits, (omega (arith, ok .short), ok .output))
 
 advance-requires : tie.Need-advance-requires
 advance-requires c κs =
     let checked = c .before .before .before .before in
-    accepted _ _ _ (passed checked) .short
+    omega (arith, accepted _ _ _ (passed checked) .short)
 
 returns-2 : tie.Need-returns-2
 returns-2 c =

@@ -17,9 +17,5 @@ returns-3 : tie.Need-returns-3
 unfolding firstOf streamChecks
 returns-3 c = search firsts depth 9
 
-returns-4 : tie.Need-returns-4
-unfolding firstOf streamChecks
-returns-4 c = search firsts depth 9
-
 pub check-stream-spec : {M : Type 1} → statement M
-check-stream-spec = tie.close (tie.spec (λ c. search needs) (λ c. search needs) returns returns-2 returns-3 returns-4)
+check-stream-spec = tie.close (tie.spec (λ c. search needs) (λ c. search needs) returns returns-2 returns-3)

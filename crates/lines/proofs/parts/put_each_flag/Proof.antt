@@ -10,8 +10,8 @@ returns c =
     let mr = c .before .before in
     let fmt = mr .before .before .before .before .before .before in
     let dbc = fmt .before .before .before .before .before .before in
-    let seq = dbc .before .before .before .before .before .before in
-    more (more (more (seq .put-flag .ensures) (dbc .put-flag2 .ensures)) (fmt .put-flag3 .ensures)) (mr .put-flag4 .ensures)
+    let seq = dbc .before .before .before .before in
+    more (more (more (seq .put-flag .ensures) (dbc .put-block .ensures)) (fmt .put-flag2 .ensures)) (mr .put-flag3 .ensures)
 
 pub put-each-flag-spec : {M : Type 1} → statement M
 put-each-flag-spec =
@@ -20,8 +20,6 @@ put-each-flag-spec =
     (λ c. refl)
     (λ c. refl)
     (λ c κs. tt)
-    (λ c. refl)
-    (λ c. refl)
     (λ c κs. tt)
     (λ c. refl)
     (λ c. refl)

@@ -1,5 +1,7 @@
+use Prim.Native.Nat.{ℕ}
 use mathlib.Core.Path.{_≡_, refl}
 use mathlib.Core.Bool.{false}
+use borrow.Author.Tests.{eq-eqb}
 use Rattle.stream.specs.declared.Flags.{Flags}
 use Rattle.text.specs.Text.{ascii}
 use Rattle.text.proofs.Puts.{alone}
@@ -7,10 +9,10 @@ use Rattle.lines.specs.Lines.{flagsText}
 use Rattle.lines.proofs.parts.put_flags.Statement.{statement}
 use Rattle.lines.proofs.parts.put_flags.Tie as tie
 
--- no flag is raised
-at-once : (f : Flags) → f .sequence ≡ false → f .block ≡ false → f .format ≡ false → f .mr ≡ false → flagsText f ≡ ascii " frame seq=ok dbc=ok fmt=ok mr=ok"
+-- each flag is judged and none is raised
+at-once : (tag : ℕ) (f : Flags) → tag ≡ 1 → f .sequence ≡ false → f .block ≡ false → f .format ≡ false → f .mr ≡ false → flagsText tag f ≡ ascii " frame seq=ok dbc=ok fmt=ok mr=ok"
 unfolding flagsText
-at-once f a b c d = rw (a, b, c, d)
+at-once tag f one a b c d = rw (eq-eqb tag 1 one, a, b, c, d)
 
 returns-2 : tie.Need-returns-2
 returns-2 c =
@@ -19,7 +21,9 @@ returns-2 c =
     let format = mr .before in
     let block = format .before in
     let sequence = block .before in
-    rw (at-once (sequence .before .before .args .flags) (sequence .if1 .left) (block .if2 .left) (format .if3 .left) (mr .if4 .left)) (alone (text .put .ensures))
+    let tag = sequence .before in
+    let start = tag .before .before in
+    rw (at-once (start .args .tag) (start .args .flags) (tag .if1 .left) (sequence .if2 .left) (block .if3 .left) (format .if4 .left) (mr .if5 .left)) (alone (text .put .ensures))
 
 pub put-flags-spec : {M : Type 1} → statement M
 put-flags-spec =

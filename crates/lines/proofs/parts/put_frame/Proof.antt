@@ -12,7 +12,7 @@ returns c =
     let number = flags .before .before .before .before in
     let start = number .before .before .before in (
       more (more (alone (number .put-decimal .ensures)) (flags .put-flags .ensures)) (timing .put-timing .ensures .0),
-      frame-length (start .args .n) (start .fits .n .fits) (start .args .flags) (start .args .timing) (timing .put-timing .ensures .1),
+      frame-length (start .args .n) (start .fits .n .fits) (start .args .tag) (start .args .flags) (start .args .timing) (timing .put-timing .ensures .1),
     )
 
 pub put-frame-spec : {M : Type 1} → statement M
