@@ -16,7 +16,7 @@ use Rattle.frame.specs.declared.layout.Header.{Header}
 use Rattle.frame.specs.declared.layout.Cip.{Cip}
 use Rattle.refusal.specs.declared.Verdict.{Verdict}
 use Rattle.refusal.specs.declared.Verdict.the-variants as verdict
-use Rattle.frame.specs.Layout.{hasCip, cipLength, headerOf, cipOf, noCip, cipIf, fieldsOf}
+use Rattle.frame.specs.Layout.{hasCip, cipLength, headerOf, cipOf, noCip, cipIf, fieldsOf, cipIn}
 use Rattle.refusal.specs.Refusals.{verdictNumber, numberOf, firstOf}
 use Rattle.frame.specs.Checks.{lengthChecks, headerChecks, blockChecks, cipChecks, askedIf, frameChecks, refusal}
 use Rattle.frame.specs.Reading.{ReadAnswer, reading, readAnswer, payloadOf, dataOf, DataThere, DataIsPayload}
@@ -38,7 +38,7 @@ pub data-payload : (frame : List ℕ) → refusal frame ≡ 0 → (let s = field
 unfolding refusal frameChecks dataOf payloadOf
 data-payload frame e =
     let n = fieldsOf frame .header .stream .«data_length» in
-    let cip = cipLength (hasCip (fieldsOf frame .header .stream .tag)) in
+    let cip = cipLength (cipIn (fieldsOf frame)) in
     let h : (cip ≤ n) × (n + 42 ≤ length frame) = accepted-room (length frame) (fieldsOf frame) e in
     rw (le-ltb n cip (h .0), le-ltb (length frame) (42 + n) (omega arith), e)
 

@@ -10,7 +10,7 @@ use Rattle.frame.specs.declared.layout.Stream.{Stream}
 use Rattle.frame.specs.declared.layout.Cip.{Cip}
 use Rattle.frame.specs.declared.layout.Header.{Header}
 use Rattle.frame.specs.declared.layout.Fields.{Fields}
-use Rattle.frame.specs.Layout.{hasCip, cipLength, fieldsOf}
+use Rattle.frame.specs.Layout.{cipLength, fieldsOf, cipIn}
 use Rattle.refusal.specs.Refusals.{firstOf}
 use Rattle.frame.specs.Checks.{quadlets, blockBytes, lengthChecks, ethernetChecks, avtpChecks, addressChecks, streamChecks, blockChecks, cipChecks, headerChecks, askedIf, readChecks, frameChecks}
 use Rattle.refusal.proofs.First.{numbered, clear, orElse, then, both}
@@ -21,9 +21,9 @@ unfolding headerChecks ethernetChecks avtpChecks addressChecks
 header-then n h = then (ethernetChecks (h .ethernet)) _ tt ∙ rw (then (avtpChecks (h .avtp)) (addressChecks (h .ethernet) ++ streamChecks n (h .stream)) tt, then (addressChecks (h .ethernet)) (streamChecks n (h .stream)) tt) refl
 
 pub read-then : (n : ℕ) (f : Fields) → firstOf (readChecks n f) ≡
-    orElse (firstOf (lengthChecks n)) (orElse (firstOf (headerChecks n (f .header))) (firstOf (askedIf (hasCip (f .header .stream .tag)) (cipChecks (f .header .stream) (f .cip)))))
+    orElse (firstOf (lengthChecks n)) (orElse (firstOf (headerChecks n (f .header))) (firstOf (askedIf (cipIn f) (cipChecks (f .header .stream) (f .cip)))))
 unfolding readChecks lengthChecks headerChecks ethernetChecks avtpChecks addressChecks streamChecks
-read-then n f = then (lengthChecks n) _ tt ∙ rw (then (headerChecks n (f .header)) (askedIf (hasCip (f .header .stream .tag)) (cipChecks (f .header .stream) (f .cip))) tt) refl
+read-then n f = then (lengthChecks n) _ tt ∙ rw (then (headerChecks n (f .header)) (askedIf (cipIn f) (cipChecks (f .header .stream) (f .cip))) tt) refl
 
 -- no check of a frame answers 0
 cip-numbered : (has : Bool) (s : Stream) (c : Cip) → T (numbered (askedIf has (cipChecks s c)))
@@ -33,7 +33,7 @@ cip-numbered false s c = tt
 
 pub frame-numbered : (frame : List ℕ) → T (numbered (frameChecks frame))
 unfolding frameChecks readChecks lengthChecks headerChecks ethernetChecks avtpChecks addressChecks streamChecks
-frame-numbered frame = let f = fieldsOf frame in cip-numbered (hasCip (f .header .stream .tag)) (f .header .stream) (f .cip)
+frame-numbered frame = let f = fieldsOf frame in cip-numbered (cipIn f) (f .header .stream) (f .cip)
 
 pub long-enough : (n : ℕ) → firstOf (lengthChecks n) ≡ 0 → 42 ≤ n
 unfolding lengthChecks
@@ -60,11 +60,11 @@ header-room n h l e =
     stream-room n (h .stream) l (both _ _ (q .1) .1)
 
 -- and so does the data of an accepted frame
-pub accepted-room : (n : ℕ) (f : Fields) → firstOf (readChecks n f) ≡ 0 → (cipLength (hasCip (f .header .stream .tag)) ≤ f .header .stream .«data_length») × (f .header .stream .«data_length» + 42 ≤ n)
+pub accepted-room : (n : ℕ) (f : Fields) → firstOf (readChecks n f) ≡ 0 → (cipLength (cipIn f) ≤ f .header .stream .«data_length») × (f .header .stream .«data_length» + 42 ≤ n)
 accepted-room n f e =
     let p = both _ _ (sym (read-then n f) ∙ e) in
     let q = both _ _ (p .1) in (
-      cip-room (hasCip (f .header .stream .tag)) (f .header .stream) (f .cip) (q .1),
+      cip-room (cipIn f) (f .header .stream) (f .cip) (q .1),
       header-room n (f .header) (long-enough n (p .0)) (q .0),
     )
 

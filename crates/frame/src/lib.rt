@@ -33,6 +33,7 @@ pub fn read(frame: &[u8]) -> Reading
     if let Verdict::Refused(refusal) = by_header {
         return Reading::Refused(refusal);
     }
+    // Of a frame without a CIP header no more is asked.
     if header.stream.tag != 1 {
         let cip = layout::no_cip();
         return Reading::Accepted(Fields { header, cip });

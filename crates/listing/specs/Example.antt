@@ -21,9 +21,9 @@ headerWith bits sequence id timestamp n packet =
 abbrev pub frameWith : ℕ → ℕ → ℕ → ℕ → ℕ → List ℕ
 frameWith bits sequence id timestamp cip = headerWith bits sequence id timestamp 8 0x5FA0 ++ bytes 8 cip
 
--- one without a CIP header, and with three bytes of payload
-abbrev bareFrame : ℕ → ℕ → ℕ → List ℕ
-bareFrame sequence id timestamp = headerWith 0x81 sequence id timestamp 3 0x1FA0 ++ bytes 3 0x3F06FF
+-- one without a CIP header, as a camera sends, and with three bytes of payload
+abbrev cameraFrame : ℕ → ℕ → ℕ → List ℕ
+cameraFrame sequence id timestamp = headerWith 0x81 sequence id timestamp 3 0x1FA0 ++ bytes 3 0x3F06FF
 
 -- with an AVTP timestamp
 abbrev pub soundFrame : ℕ → ℕ → List ℕ
@@ -69,10 +69,10 @@ limitListing =
 unfoldable pub mixedCapture : List ℕ
 mixedCapture =
     recordBytes 2 (bytes 8 1)
-    ++ recordBytes 1 (reverse (bytes 8 1000) ++ bareFrame 0 1 3000)
+    ++ recordBytes 1 (reverse (bytes 8 1000) ++ cameraFrame 0 1 3000)
     ++ recordBytes 1 (reverse (bytes 8 1000) ++ frameWith 0x81 1 1 3000 0x000600079002FFFF)
     ++ recordBytes 1 (reverse (bytes 8 1000) ++ headerWith 0x81 2 1 3000 0 0x1FA0)
-    ++ recordBytes 1 (reverse (bytes 8 1000) ++ bareFrame 3 1 3000)
+    ++ recordBytes 1 (reverse (bytes 8 1000) ++ cameraFrame 3 1 3000)
     ++ recordBytes 1 (reverse (bytes 8 1000) ++ frameWith 0x81 4 1 3000 0x000600079002FFFF)
     ++ recordBytes 1 (reverse (bytes 8 1000) ++ frameWith 0x81 5 1 3000 0x000600089002FFFF)
     ++ recordBytes 1 (reverse (bytes 8 1000) ++ headerWith 0x81 6 1 3000 0 0x9FA0)

@@ -5,7 +5,7 @@ use mathlib.Core.Bool.{Bool, true, false, not, _&&_, _||_, cond}
 use borrow.Author.Tests.{eq-eqb}
 use Rattle.refusal.specs.Refusals.{differs}
 use Rattle.frame.specs.declared.layout.Fields.{Fields}
-use Rattle.frame.specs.Layout.{hasCip}
+use Rattle.frame.specs.Layout.{cipIn}
 use Rattle.stream.specs.declared.Format.{Format}
 use Rattle.stream.specs.declared.Record.{Record}
 use Rattle.stream.specs.Records.{bitDiffers, formatOf, formatChange, keptFormat, formatFlag}
@@ -27,4 +27,4 @@ change-by-kept false last g = format-same last
 
 pub flag-by-kept : (r : Record) (f : Fields) → differs (f .header .stream .tag) (r .tag) || formatChange (r .format) (keptFormat r f) ≡ formatFlag r f
 unfolding keptFormat formatFlag
-flag-by-kept r f = rw (change-by-kept (hasCip (f .header .stream .tag)) (r .format) (formatOf (f .cip)))
+flag-by-kept r f = rw (change-by-kept (cipIn f) (r .format) (formatOf (f .cip)))

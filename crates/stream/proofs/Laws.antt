@@ -5,7 +5,7 @@ use mathlib.Core.Bool.{Bool, true, false, not, _&&_, _||_, cond, false≢true}
 use mathlib.Core.List.{List}
 use borrow.Author.Tests.{eq-eqb}
 use Rattle.refusal.specs.Refusals.{differs}
-use Rattle.frame.specs.Layout.{hasCip, fieldsOf}
+use Rattle.frame.specs.Layout.{fieldsOf, cipIn}
 use Rattle.frame.specs.Reading.{payloadOf, blocksOf}
 use Rattle.tally.specs.Tally.{counted}
 use Rattle.stream.specs.declared.Record.{Record}
@@ -91,22 +91,22 @@ next-block false false expected a b n e h = absurd (false≢true h)
 
 -- a frame that carries the numbers that are expected
 module _ (r : Record) (frame : List ℕ) (L : ℕ) (sequence dbc : ℕ) (expects : Expects r sequence dbc)
-    (same : fieldsOf frame .header .avtp .sequence ≡ sequence) (carried : hasCip (fieldsOf frame .header .stream .tag) ≡ true → fieldsOf frame .cip .dbc ≡ dbc) where
+    (same : fieldsOf frame .header .avtp .sequence ≡ sequence) (carried : cipIn (fieldsOf frame) ≡ true → fieldsOf frame .cip .dbc ≡ dbc) where
   -- breaks neither sequence nor block count
   pub no-breaks : (answerOf r frame L .flags .sequence ≡ false) × (answerOf r frame L .flags .block ≡ false)
   unfolding answerOf stepOf stepped flagsOf blockFlag
   no-breaks = (
     no-sequence (r .seen) (fieldsOf frame .header .avtp .sequence) ((r .sequence + 1) % 256) (λ e. expects .sequence e ∙ sym same),
-    no-block (r .seen) (hasCip (fieldsOf frame .header .stream .tag)) (r .«dbc_expected») (fieldsOf frame .cip .dbc) (r .«next_dbc») dbc carried (expects .dbc),
+    no-block (r .seen) (cipIn (fieldsOf frame)) (r .«dbc_expected») (fieldsOf frame .cip .dbc) (r .«next_dbc») dbc carried (expects .dbc),
   )
 
   -- and after it the next frame is expected to follow
   pub expects-next : Expects (after r frame L) ((fieldsOf frame .header .avtp .sequence + 1) % 256)
-      (cond (hasCip (fieldsOf frame .header .stream .tag)) ((fieldsOf frame .cip .dbc + blocksOf (payloadOf frame) (fieldsOf frame .cip .dbs)) % 256) dbc)
+      (cond (cipIn (fieldsOf frame)) ((fieldsOf frame .cip .dbc + blocksOf (payloadOf frame) (fieldsOf frame .cip .dbs)) % 256) dbc)
   unfolding after stepOf stepped recordAfter keptDbc dbcExpected
   expects-next =
       record {
         sequence = λ e. refl;
-        dbc = next-block (hasCip (fieldsOf frame .header .stream .tag)) (r .seen) (r .«dbc_expected»)
+        dbc = next-block (cipIn (fieldsOf frame)) (r .seen) (r .«dbc_expected»)
             ((fieldsOf frame .cip .dbc + blocksOf (payloadOf frame) (fieldsOf frame .cip .dbs)) % 256) (r .«next_dbc») dbc (expects .dbc);
       }
