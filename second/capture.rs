@@ -5,6 +5,7 @@ use crate::refusal::Refusal;
 
 const KIND_FRAME: u16 = 1;
 const KIND_ADMIT: u16 = 2;
+/// Removals are no longer obeyed (request #109).
 const KIND_REMOVE: u16 = 3;
 const KIND_ADMIT_WITH_LIMIT: u16 = 5;
 
@@ -24,7 +25,6 @@ pub enum CaptureRecord<'a> {
         id: u64,
         limit: u32,
     },
-    Remove(u64),
 }
 
 /// Splits the first record off `bytes`: what its length counts, and the bytes
@@ -47,7 +47,7 @@ pub fn parse_record(record: &[u8]) -> Result<CaptureRecord<'_>, Refusal> {
             None => Err(Refusal::RecordLength),
         },
         KIND_ADMIT => Ok(CaptureRecord::Admit { id: parse_stream_id(body)?, limit: LARGEST_LIMIT }),
-        KIND_REMOVE => Ok(CaptureRecord::Remove(parse_stream_id(body)?)),
+        KIND_REMOVE => parse_stream_id(body).and(Err(Refusal::RemovalRetired)),
         KIND_ADMIT_WITH_LIMIT => match body.split_last_chunk() {
             Some((id, limit)) => Ok(CaptureRecord::Admit {
                 id: parse_stream_id(id)?,
@@ -76,18 +76,21 @@ mod tests {
         let number = |record: &[u8]| parse_record(record).map_or_else(Refusal::number, |_| 0);
         assert_eq!(number(&[]), 42);
         assert_eq!(number(&[1]), 42);
-        for (kind, lengths) in [(1, 10..=65535), (2, 10..=10), (3, 10..=10), (5, 14..=14)] {
+        for (kind, lengths, right) in
+            [(1, 10..=65535, 0), (2, 10..=10, 0), (3, 10..=10, 44), (5, 14..=14, 0)]
+        {
             for length in [2, 3, 5, 6, 9, 10, 11, 13, 14, 15, 65535] {
                 let mut record = vec![0; length];
                 record[0] = kind;
-                let answer = if lengths.contains(&length) { 0 } else { 42 };
+                let answer = if lengths.contains(&length) { right } else { 42 };
                 assert_eq!(number(&record), answer, "kind {kind}, length {length}");
             }
         }
-        for kind in [[0, 0], [4, 0], [6, 0], [1, 1], [5, 1], [0, 1], [0, 5], [255, 255]] {
-            assert_eq!(number(&kind), 43);
-            assert_eq!(number(&[&kind[..], &[0; 8]].concat()), 43);
-            assert_eq!(number(&[&kind[..], &[0; 12]].concat()), 43);
+        for kind in [0, 4, 6, 256, 257, 259, 261, 768, 771, 1280, 65535_u16] {
+            for body in [0, 8, 12] {
+                let record = [&kind.to_le_bytes()[..], &vec![0; body]].concat();
+                assert_eq!(number(&record), 43, "kind {kind}, length {}", body + 2);
+            }
         }
         assert_eq!(
             parse_record(&[1, 0, 1, 2, 0, 0, 0, 0, 0, 0]),
@@ -97,7 +100,6 @@ mod tests {
             parse_record(&[2, 0, 0, 0, 0, 0, 0, 0, 2, 1]),
             Ok(CaptureRecord::Admit { id: 513, limit: 2_147_483_647 })
         );
-        assert_eq!(parse_record(&[3, 0, 0, 0, 0, 0, 0, 0, 2, 1]), Ok(CaptureRecord::Remove(513)));
     }
 
     #[test]

@@ -4,13 +4,13 @@
 //! each record it writes a line for each case that the record is, such as
 //! `sph fn=2 start last` (`starts.rs` says which there are), `qpc=3 alone` (`qpc.rs`
 //! does), `sph=0 half a wrap, L + d below 0` (`half_wrap.rs` does), `limit=0 admitted`
-//! (`limits.rs` does) or `tag=0 padding` (`tags.rs` does, and says some of whole captures
-//! too). Neither a listing nor a report shows any of this, and the comparisons have to know
-//! that each came up.
+//! (`limits.rs` does), `tag=0 padding` (`tags.rs` does) or `removal again` (`removals.rs`
+//! does); the last two say some of whole captures too. Neither a listing nor a report shows
+//! any of this, and the comparisons have to know that each came up.
 //!
 //! This file is a root beside `list.rs`, over rooms that stand there too; from the
 //! bottom: wire, refusal, cip, frame, presentation, stream, table, capture, outcome,
-//! reading, starts, qpc, half_wrap, limits, tag_rules, tags.
+//! reading, starts, qpc, half_wrap, limits, tag_rules, tags, removals.
 //!
 //! Build: `build.sh OUTDIR`.
 
@@ -24,6 +24,7 @@ mod presentation;
 mod qpc;
 mod reading;
 mod refusal;
+mod removals;
 #[cfg(test)]
 mod samples;
 mod starts;
@@ -38,9 +39,10 @@ use limits::{limit_cases, Limits};
 use outcome::carry_out;
 use qpc::qpc_cases;
 use reading::{read_records, Failure, BUFFER};
+use removals::{removal_cases, Removals};
 use starts::start_cases;
-use std::fs::File;
-use std::io::{self, BufWriter, Read, Write};
+use std::fs;
+use std::io::{self, BufWriter, Write};
 use std::process::ExitCode;
 use table::StreamTable;
 use tags::{tag_cases, Tags};
@@ -51,12 +53,16 @@ fn write_lines(out: &mut impl Write, cases: &[String]) -> io::Result<()> {
 }
 
 /// Writes the lines of one capture.
-fn write_cases(input: &mut impl Read, out: &mut impl Write, buffer: &mut [u8]) -> io::Result<()> {
+fn write_cases(capture: &[u8], out: &mut impl Write, buffer: &mut [u8]) -> io::Result<()> {
     let mut table = StreamTable::new();
     let mut heedless = StreamTable::new();
-    let mut limits = Limits::new();
+    let mut limits = Limits::default();
     let mut tags = Tags::new();
-    let done = read_records(input, buffer, |record| {
+    let mut removals = Removals::default();
+    // Bytes of whole records.
+    let mut whole = 0;
+    let done = read_records(&mut &*capture, buffer, |record| {
+        whole += 2 + record.len();
         let outcome = carry_out(&mut table, record);
         let cases = [
             start_cases(&outcome),
@@ -64,11 +70,15 @@ fn write_cases(input: &mut impl Read, out: &mut impl Write, buffer: &mut [u8]) -
             half_wrap_cases(record, &outcome),
             limit_cases(&mut limits, record, &outcome),
             tag_cases(&mut tags, record, &outcome),
+            removal_cases(&mut removals, record, &outcome),
         ];
         write_lines(out, &cases.concat())
     });
     match done {
-        Ok(_) => write_lines(out, &tags.end_cases()),
+        Ok(_) => {
+            let cases = [tags.end_cases(), removals.end_cases(&capture[whole..])];
+            write_lines(out, &cases.concat())
+        }
         Err(Failure::Read(error) | Failure::Write(error)) => Err(error),
     }
 }
@@ -78,7 +88,7 @@ fn write_all_cases() -> io::Result<()> {
     let mut buffer = vec![0; BUFFER];
     let mut out = BufWriter::new(io::stdout().lock());
     for name in std::env::args_os().skip(1) {
-        write_cases(&mut File::open(name)?, &mut out, &mut buffer)?;
+        write_cases(&fs::read(name)?, &mut out, &mut buffer)?;
     }
     out.flush()
 }
@@ -104,14 +114,15 @@ mod tests {
     /// The lines of a capture of these records.
     fn lines(records: &[Vec<u8>]) -> Vec<String> {
         let mut out = Vec::new();
-        write_cases(&mut &records.concat()[..], &mut out, &mut vec![0; BUFFER]).unwrap();
+        write_cases(&records.concat(), &mut out, &mut vec![0; BUFFER]).unwrap();
         String::from_utf8(out).unwrap().lines().map(String::from).collect()
     }
 
-    /// Those that are about neither limits nor tags, on one line.
+    /// Those that are about neither limits nor tags nor removals, on one line.
     fn said(records: &[Vec<u8>]) -> String {
         let mut lines = lines(records);
-        lines.retain(|line| !line.starts_with("limit") && !line.starts_with("tag"));
+        let elsewhere = ["limit", "tag", "removal"];
+        lines.retain(|line| !elsewhere.iter().any(|what| line.starts_with(what)));
         lines.join(", ")
     }
 
@@ -230,6 +241,28 @@ mod tests {
     }
 
     #[test]
+    fn removals_of_every_record_and_of_the_end() {
+        let capture = [
+            remove_record(1),
+            admit_record(1),
+            frame_record(0, &sound(1, &[])),
+            remove_record(1),
+            admit_record(1),
+            remove_record(1)[..6].to_vec(),
+        ];
+        let expected = [
+            "removal before any admission",
+            "removal of a stream not admitted",
+            "removal, then the stream admitted",
+            "removal of a stream admitted",
+            "removal, then the stream refused 21",
+            "removal after all frames",
+            "removal cut within its id",
+        ];
+        assert_eq!(said_about(&capture, "removal"), expected);
+    }
+
+    #[test]
     fn where_a_qpc_would_show() {
         let frame = |sequence, dbc| with(with(sound(1, &[0; 8]), 20, sequence), 45, dbc);
         let then = |refused: &[u8], after: &[Vec<u8>]| {
@@ -247,9 +280,8 @@ mod tests {
         assert_eq!(then(&fn_1, &anew), format!("{shows}, qpc shows in fmt"));
         let mr = with(refused.clone(), 19, 0x89);
         assert_eq!(then(&mr, &anew), format!("{shows}, qpc shows in mr"));
-        // Nothing of it is left, or it would be refused with QPC 0 too.
-        let readmitted = [remove_record(1), admit_record(1), frame_record(0, &frame(9, 9))];
-        assert_eq!(then(&refused, &readmitted), "qpc=3 alone");
+        // Both flags are raised anyway, or it would be refused with QPC 0 too.
+        assert_eq!(then(&refused, &[frame_record(0, &frame(9, 9))]), "qpc=3 alone");
         assert_eq!(then(&with(refused, 43, 3), &next), "qpc with 14");
     }
 }

@@ -6,14 +6,15 @@
 # REPORTER is the first program: it reports the capture file named, or a capture on
 # standard input. Both programs report COUNT captures made from SEED, each in a call
 # of its own, and their visit reports must agree byte for byte; some captures also go
-# to the first program through a pipe in small pieces. With --million one more is
-# reported, of about 200 million bytes, in which a stream has more ahead or late
-# frames than are summed. The first program has to say what is wrong where it is given
-# no capture or two. Then it is shown how often each thing that a report can say came
-# up, and each case of half a wrap, of transit limits and of tags, which it doesn't show
-# (half_wrap.rs, limits.rs and tags.rs say which there are), and each that must come up has
-# to. A capture that differs is named by its number; it is made again by
-# `generate DIR SEED COUNT`, or `generate --million FILE`.
+# to the first program through a pipe in small pieces. With all records but frames left
+# out after a capture's last admission, the first program has to print the same report.
+# With --million one more is reported, of about 200 million bytes, in which a stream has
+# more ahead or late frames than are summed. The first program has to say what is wrong
+# where it is given no capture or two. Then it is shown how often each thing that a
+# report can say came up, and each case of half a wrap, of transit limits, of tags and of
+# removals, which it doesn't show (half_wrap.rs, limits.rs, tags.rs and removals.rs say
+# which there are), and each that must come up has to. A capture that differs is named by
+# its number; it is made again by `generate DIR SEED COUNT`, or `generate --million FILE`.
 set -euo pipefail
 
 million=false
@@ -49,6 +50,7 @@ compare_report() {
 
 for name in "${captures[@]}"; do
     compare_report "$name"
+    agrees "$thinned/$name" || differs "$name" "reported $as_thinned"
 done
 compare_piped
 if [[ $million == true ]]; then
@@ -81,7 +83,7 @@ agrees - <"$name" || differs "$name" "on standard input, as -"
 # --- What came up -----------------------------------------------------------
 
 # Cases are looked for in the captures of the seed only.
-"$work/second_cases" [0-9]*.cap | sed -nE '/^(sph=|limit|tag)/p' >"$work/cases"
+"$work/second_cases" [0-9]*.cap | sed -nE '/^(sph=|limit|tag|removal)/p' >"$work/cases"
 covered=true
 awk -v million="$million" "$counting"'
     BEGIN {
@@ -131,6 +133,7 @@ awk -v million="$million" "$counting"'
         half_wraps_known()
         limits_known()
         tags_known()
+        removals_known()
         # A frame whose stamp would be cut is refused 14.
         forbidden("cut above 0")
         # Half a wrap is unclear, and not summed (request #106).
@@ -199,7 +202,7 @@ awk -v million="$million" "$counting"'
         streams = disordered = 0
         next
     }
-    /^(sph=|limit|tag)/ { came($0); next }
+    /^(sph=|limit|tag|removal)/ { came($0); next }
     !sound() { came("any other line"); next }
     {
         if (streams++ && below($1, last)) disordered = 1

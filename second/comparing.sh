@@ -31,10 +31,14 @@ prepare() {
 first_out=$work/first.out
 second_out=$work/second.out
 # Every one of this many captures goes through a pipe too. It shares no factor with
-# the 22 of kinds.rs, so that captures of each kind do.
+# the 26 of kinds.rs, so that captures of each kind do.
 piped_each=17
 # The captures for which they print something different, by name.
 declare -A differing=()
+# Each capture, under its name, with nothing but frames after the last admission that is
+# obeyed; other records there change nothing (request #109).
+thinned=$work/thinned
+as_thinned="with nothing but frames after its last admission"
 
 # Makes captures and goes to their folder; `captures` are their names:
 # `make_captures SEED COUNT`.
@@ -43,6 +47,7 @@ make_captures() {
     "$work/generate" "$work/captures" "$seed" "$2"
     cd "$work/captures" || exit
     captures=(*.cap)
+    "$work/generate" --thin "$thinned" "${captures[@]}"
 }
 
 # Runs the first program on the files given, or on standard input, and sets the
@@ -91,8 +96,8 @@ compare_piped() {
         fi
         piped=$((piped + 1))
     done
-    echo "captures: ${#captures[@]} of seed $seed, $(cat -- *.cap | wc -c) bytes;" \
-        "$piped of them piped too"
+    echo "captures: ${#captures[@]} of seed $seed, $(cat -- *.cap | wc -c) bytes," \
+        "thinned $(cat -- "$thinned"/*.cap | wc -c); $piped of them piped too"
 }
 
 # --- What came up -----------------------------------------------------------
@@ -100,9 +105,9 @@ compare_piped() {
 # Functions for awk that count what came up. `known` names a thing that has to come
 # up, `each_known` one for each of the parts between semicolons, `half_wraps_known` all
 # cases of half_wrap.rs, `limits_known` all of limits.rs, `tags_known` all of tags.rs,
-# `forbidden` a thing that may not, and `came` says that one did: any other line, where it
-# is neither. `shown` shows how often each came up, and answers whether that is as it must
-# be.
+# `removals_known` all of removals.rs, `forbidden` a thing that may not, and `came` says that
+# one did: any other line, where it is neither. `shown` shows how often each came up, and
+# answers whether that is as it must be.
 counting='
     function known(name) {
         order[++names] = name
@@ -154,10 +159,7 @@ counting='
         each_known("limit=2147483646 d=", "2147483646;2147483647", ", kind 5")
         each_known("limit=2147483647 d=", "2147483646;2147483647", ", kind 2")
         each_known("limit=2147483647 d=", "2147483646;2147483647", ", kind 5")
-        for (i = 2; i <= 5; i += 3) {
-            each_known("limit told from ", "0;the one before removal", ", kind " i)
-            known("limit told from the one before at its place, kind " i)
-        }
+        each_known("limit told from ", "0, kind 2;0, kind 5")
         each_known("limit told from ", "the largest;its bytes in the other order")
         each_known("limit told from the ", "first stream\047s;last admitted stream\047s")
         known("limit told from that of the frame before")
@@ -181,10 +183,7 @@ counting='
         each_known("tags 1 0 ", "seq=ok;seq=break;mr=ok;mr=change")
         each_known("tags 0 1 ", "seq=ok;seq=break;mr=ok;mr=change")
         each_known("tags 0 0 ", "seq=ok;seq=break;mr=ok;mr=change")
-        for (i = 0; i <= 1; i++) {
-            known("tag=" i " first")
-            each_known("tag=" i " first, admitted again after ", "0;1")
-        }
+        each_known("tag=", "0;1", " first")
         known("tags mixed with no flag but format")
         known("tags 0 and 1 by turns")
         # A frame that is refused 1 is left out, though it may go on to its tag.
@@ -197,7 +196,7 @@ counting='
         each_known("", "tag=1 in all frames;tag=0 in all frames;tags 0 and 1 in accepted frames")
         told = "tag told from "
         each_known(told "tag ", "2 as 0;2 as 1;3 as 0;3 as 1;of any stream;of a refused frame")
-        each_known(told "tag ", "0 not seen;0 not kept;1 not kept after 0;before removal")
+        each_known(told "tag ", "0 not seen;0 not kept;1 not kept after 0")
         each_known(told, "12 for tag 0;13 for tag 0;13 for tag 0 without data;16 for tag 0")
         each_known(told "14 for tag 0", "; by quadlets; by DBS 0")
         known(told "2 for tag 0 over 1468")
@@ -208,7 +207,7 @@ counting='
         each_known(told "dbc", "=ok for tag 0;=ok for tag 0 first")
         each_known(told "dbc of tag 0 ", "by its byte;as 0")
         each_known(told "no count as ", "0;another;none")
-        each_known(told "count ", "of any stream;not judged after tag 0;before removal")
+        each_known(told "count ", "of any stream;not judged after tag 0")
         each_known(told "count ", "absent after tag 0;0 after tag 0;absent after a refused frame")
         each_known(told "count of tag 0 by ", "its byte;its byte and blocks;DBS 0")
         each_known(told "count moved by ", "1;DBS 0;blocks;quadlets", " at tag 0")
@@ -216,6 +215,26 @@ counting='
         each_known(told "format flag of ", "tag 0 first;tag 1 first")
         each_known(told "format flag by ", "fields that are 0 with tag 0;the tag alone")
         each_known(told "no format flag of tags ", "0 1;1 0")
+    }
+    function removals_known(   flags, then) {
+        known("removal before any admission")
+        each_known("removal of a stream ", "admitted;not admitted")
+        each_known("removal of a stream ", "admitted;not admitted", ", table full")
+        known("removal again")
+        each_known("removal of length ", "2;3;4;5;6;7;8;9;11;12;13;14;15;any")
+        each_known("removal of kind ", "259;768;any")
+        then = "removal, then "
+        each_known(then, "the stream refused 21;the stream refused 21, table full")
+        each_known(then, "another refused 22;the stream admitted;a frame refused 15")
+        known("removal before the first frame")
+        flags = "no flag;seq=break;dbc=break;fmt=change;mr=change"
+        each_known("removal between frames, ", flags)
+        each_known("removal and admission between frames, ", flags ";limit kept")
+        each_known("removal ", "too long;of another kind", " between frames")
+        each_known("removal ", "last;before a cut record;of another length cut")
+        each_known("removal cut ", "after its kind;within its id;before its last byte")
+        each_known("removal ", "with no frames;after all frames;before all frames")
+        each_known("removal amid ", "frames;summed offsets")
     }
     function came(name) {
         count[name in count ? name : "any other line"]++

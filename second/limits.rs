@@ -45,10 +45,13 @@
 use crate::frame::Frame;
 use crate::outcome::Outcome;
 use crate::refusal::Refusal;
-use std::collections::{BTreeMap, BTreeSet};
+use std::collections::BTreeSet;
 
 /// The largest limit that is allowed.
 const LARGEST: u32 = 2_147_483_647;
+
+/// Places of the table.
+const PLACES: usize = 64;
 
 /// The largest time of 64 bits.
 const LARGEST_TIME: i128 = u64::MAX as i128;
@@ -72,10 +75,6 @@ struct Stream {
     /// The kind of the record that admitted it, and the limit there.
     kind: u16,
     limit: u32,
-    /// The limit that it had before it was removed last.
-    removed: Option<u32>,
-    /// The limit of the stream that had its place before.
-    place: Option<u32>,
     /// The kind and the limit of its last admission that was refused, since its own.
     refused: Option<(u16, u32)>,
     /// What its last frame was, and the offset of the last that was accepted.
@@ -83,23 +82,13 @@ struct Stream {
     offset: Option<i64>,
 }
 
-/// One place of the table.
-#[derive(Default)]
-struct Place {
-    stream: Option<Stream>,
-    /// The limit of the stream that was here last and is removed.
-    left: Option<u32>,
-}
-
 /// The limits of a capture's streams, as the records so far give them.
+#[derive(Default)]
 pub struct Limits {
-    places: [Place; 64],
-    /// The limits of streams that are removed, by id.
-    removed: BTreeMap<u64, u32>,
+    /// The admitted streams, in the order of their places.
+    streams: Vec<Stream>,
     /// Streams that were refused last, for their limit alone.
     too_large: BTreeSet<u64>,
-    /// The limit of the stream admitted last.
-    last_admitted: Option<u32>,
     /// The limit of the stream whose frame was accepted last.
     last_accepted: Option<u32>,
 }
@@ -180,32 +169,25 @@ fn named(limit: u32) -> String {
 }
 
 impl Limits {
-    /// No stream is admitted.
-    pub fn new() -> Limits {
-        Limits {
-            places: std::array::from_fn(|_| Place::default()),
-            removed: BTreeMap::new(),
-            too_large: BTreeSet::new(),
-            last_admitted: None,
-            last_accepted: None,
-        }
-    }
-
-    /// The place of an admitted stream.
-    fn place(&mut self, id: u64) -> Option<&mut Place> {
-        self.places.iter_mut().find(|place| place.stream.as_ref().is_some_and(|it| it.id == id))
-    }
-
     /// An admitted stream.
     fn stream(&self, id: u64) -> Option<&Stream> {
-        let mut streams = self.places.iter().filter_map(|place| place.stream.as_ref());
-        streams.find(|stream| stream.id == id)
+        self.streams.iter().find(|stream| stream.id == id)
+    }
+
+    /// An admitted stream, to take something in.
+    fn stream_mut(&mut self, id: u64) -> Option<&mut Stream> {
+        self.streams.iter_mut().find(|stream| stream.id == id)
+    }
+
+    /// Whether no further stream can be admitted.
+    fn full(&self) -> bool {
+        self.streams.len() == PLACES
     }
 
     /// What an admission by kind 5 is a case of.
     fn admission_cases(&self, id: u64, limit: u32) -> Vec<String> {
         let admitted = self.stream(id).is_some();
-        let full = self.places.iter().all(|place| place.stream.is_some());
+        let full = self.full();
         let mut cases = vec![match (admitted, full) {
             (true, true) => format!("limit {}, admitted already, table full", judged(limit)),
             (true, false) => format!("limit {}, admitted already", judged(limit)),
@@ -223,54 +205,28 @@ impl Limits {
     /// Takes in an admission by kind 2 or 5.
     fn admission(&mut self, kind: u16, id: u64, limit: u32) {
         self.too_large.remove(&id);
-        if let Some(stream) = self.place(id).and_then(|place| place.stream.as_mut()) {
+        if let Some(stream) = self.stream_mut(id) {
             stream.refused = Some((kind, limit));
-            return;
-        }
-        let Some(unused) = self.places.iter_mut().find(|place| place.stream.is_none()) else {
-            return;
-        };
-        if limit > LARGEST {
+        } else if !self.full() && limit > LARGEST {
             self.too_large.insert(id);
-            return;
+        } else if !self.full() {
+            let stream = Stream { id, kind, limit, refused: None, frame: None, offset: None };
+            self.streams.push(stream);
         }
-        unused.stream = Some(Stream {
-            id,
-            kind,
-            limit,
-            removed: self.removed.remove(&id),
-            place: unused.left,
-            refused: None,
-            frame: None,
-            offset: None,
-        });
-        self.last_admitted = Some(limit);
-    }
-
-    /// Takes in a removal.
-    fn removal(&mut self, id: u64) {
-        let Some(place) = self.place(id) else {
-            return;
-        };
-        let limit = place.stream.take().map(|stream| stream.limit);
-        place.left = limit;
-        self.removed.extend(limit.map(|limit| (id, limit)));
     }
 
     /// Limits that a faulty reader could take for a stream's own, by their names.
     fn others(&self, stream: &Stream) -> Vec<(String, Option<u32>)> {
         let Stream { kind, limit, .. } = *stream;
         let with_limit = kind == 5;
-        let first = self.places.iter().find_map(|place| place.stream.as_ref());
+        let [first, last] = [self.streams.first(), self.streams.last()];
         let reversed = Some(limit.swap_bytes()).filter(|&other| with_limit && other <= LARGEST);
         let mut others = vec![
             (format!("0, kind {kind}"), Some(0)),
             ("the largest".into(), with_limit.then_some(LARGEST)),
             ("its bytes in the other order".into(), reversed),
-            (format!("the one before removal, kind {kind}"), stream.removed),
-            (format!("the one before at its place, kind {kind}"), stream.place),
             ("the first stream's".into(), first.map(|first| first.limit)),
-            ("the last admitted stream's".into(), self.last_admitted),
+            ("the last admitted stream's".into(), last.map(|last| last.limit)),
             ("that of the frame before".into(), self.last_accepted),
         ];
         if let Some((kind, limit)) = stream.refused {
@@ -327,7 +283,7 @@ impl Limits {
 
     /// Takes in that a stream, if it is admitted, had a frame.
     fn had_frame(&mut self, id: u64, frame: &'static str, offset: Option<i64>) {
-        if let Some(stream) = self.place(id).and_then(|place| place.stream.as_mut()) {
+        if let Some(stream) = self.stream_mut(id) {
             stream.frame = Some(frame);
             stream.offset = offset.or(stream.offset);
         }
@@ -366,10 +322,6 @@ pub fn limit_cases(
             limits.admission(2, id, LARGEST);
             vec![]
         }
-        (3, 10, _) => {
-            limits.removal(id);
-            vec![]
-        }
         (5, 14, &[.., a, b, c, d]) => {
             let limit = u32::from_le_bytes([a, b, c, d]);
             let cases = limits.admission_cases(id, limit);
@@ -389,7 +341,7 @@ mod tests {
     use super::*;
     use crate::outcome::carry_out;
     use crate::samples::{
-        admit_record, frame_record, limited_record, record, remove_record, sound, stamped, with,
+        admit_record, frame_record, limited_record, record, sound, stamped, with,
     };
     use crate::table::StreamTable;
 
@@ -398,7 +350,7 @@ mod tests {
 
     /// What the last of these records is a case of.
     fn said_last(records: &[Vec<u8>]) -> Vec<String> {
-        let (mut table, mut limits) = (StreamTable::new(), Limits::new());
+        let (mut table, mut limits) = (StreamTable::new(), Limits::default());
         let mut last = vec![];
         for record in records {
             let outcome = carry_out(&mut table, &record[2..]);
@@ -549,26 +501,6 @@ mod tests {
             that of the frame before"
         );
         assert_eq!(then(&[frame(2, -1)]), "");
-    }
-
-    #[test]
-    fn limits_before_a_removal() {
-        let anew = |admission| {
-            told_from(&[
-                limited_record(1, 9),
-                limited_record(2, 5),
-                remove_record(1),
-                remove_record(2),
-                admission,
-                frame(2, 7),
-            ])
-        };
-        assert_eq!(anew(admit_record(2)), "0, kind 2; the one before removal, kind 2");
-        assert_eq!(
-            anew(limited_record(2, 6)),
-            "the largest; its bytes in the other order; the one before at its place, kind 5"
-        );
-        assert_eq!(anew(limited_record(2, 10)), "0, kind 5; the one before removal, kind 5");
     }
 
     #[test]

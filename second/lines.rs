@@ -18,7 +18,6 @@ pub fn push_outcome(lines: &mut Vec<u8>, number: u64, outcome: &Outcome) {
     match outcome {
         Outcome::Frame(reception) => push_reception(lines, reception),
         Outcome::Admitted => lines.extend_from_slice(b" admitted\n"),
-        Outcome::Removed(_) => lines.extend_from_slice(b" removed\n"),
     }
 }
 
@@ -113,7 +112,7 @@ mod tests {
         let mut lines = Vec::new();
         push_start(&mut lines);
         push_outcome(&mut lines, 1, &Outcome::Admitted);
-        push_outcome(&mut lines, 2, &Outcome::Removed(7));
+        push_refusal(&mut lines, 2, Refusal::RemovalRetired);
         push_refusal(&mut lines, 3, Refusal::RecordKind);
         push_outcome(&mut lines, 4, &received(none, TimeKind::None, 0));
         push_outcome(&mut lines, 5, &received(none, TimeKind::Cut, 0));
@@ -129,7 +128,7 @@ mod tests {
             String::from_utf8(lines).unwrap(),
             "avtp listing 1\n\
             1 admitted\n\
-            2 removed\n\
+            2 refused 44\n\
             3 refused 43\n\
             4 frame seq=ok dbc=ok fmt=ok mr=ok time=none offset=0\n\
             5 frame seq=ok dbc=ok fmt=ok mr=ok time=cut offset=0\n\

@@ -118,7 +118,7 @@ mod tests {
             1 admitted\n\
             2 frame seq=ok dbc=ok fmt=ok mr=ok time=ahead offset=2000\n\
             3 refused 15\n\
-            4 removed\n\
+            4 refused 44\n\
             end records=4\n";
         assert_eq!(listed(&capture), expected);
         for piece in 1..=capture.len() {
@@ -215,6 +215,59 @@ mod tests {
     }
 
     #[test]
+    fn removals_are_not_obeyed() {
+        let frame = |sequence| frame_record(0, &with(sound(1, &[]), 20, sequence));
+        let capture = [
+            remove_record(1),
+            admit_record(1),
+            remove_record(1),
+            frame(4),
+            remove_record(1),
+            frame(5),
+            remove_record(1),
+            limited_record(1, 0),
+            frame(7),
+            record(3, &[0; 7]),
+            record(3, &[&1_u64.to_be_bytes()[..], &[0; 4]].concat()),
+            record(259, &1_u64.to_be_bytes()),
+            remove_record(2),
+            frame(8),
+            remove_record(1),
+        ]
+        .concat();
+        let lines = "avtp listing 1\n\
+            1 refused 44\n\
+            2 admitted\n\
+            3 refused 44\n\
+            4 frame seq=ok dbc=ok fmt=ok mr=ok time=ahead offset=0\n\
+            5 refused 44\n\
+            6 frame seq=ok dbc=ok fmt=ok mr=ok time=ahead offset=0\n\
+            7 refused 44\n\
+            8 refused 21\n\
+            9 frame seq=break dbc=ok fmt=ok mr=ok time=ahead offset=0\n\
+            10 refused 42\n\
+            11 refused 42\n\
+            12 refused 43\n\
+            13 refused 44\n\
+            14 frame seq=ok dbc=ok fmt=ok mr=ok time=ahead offset=0\n";
+        assert_eq!(listed(&capture), format!("{lines}15 refused 44\nend records=15\n"));
+        for missing in 1..12 {
+            let cut = &capture[..capture.len() - missing];
+            assert_eq!(listed(cut), format!("{lines}15 refused 41\nend records=15\n"));
+        }
+    }
+
+    #[test]
+    fn removals_free_no_place() {
+        let admissions: Vec<Vec<u8>> = (0..64).map(admit_record).collect();
+        let after = [remove_record(63), admit_record(64), admit_record(63), limited_record(64, 0)];
+        let lines = listed(&[&admissions[..], &after].concat().concat());
+        let last = "64 admitted\n65 refused 44\n66 refused 22\n67 refused 21\n68 refused 22\n\
+            end records=68\n";
+        assert!(lines.ends_with(last));
+    }
+
+    #[test]
     fn empty_capture() {
         assert_eq!(listed(&[]), "avtp listing 1\nend records=0\n");
     }
@@ -262,7 +315,7 @@ mod tests {
             let (record, line) = match number % 3 {
                 0 => (record(4, &[0; 65533]), "refused 43"),
                 1 => (frame_record(0, &[0; 65525]), "refused 2"),
-                _ => (remove_record(3), "refused 23"),
+                _ => (remove_record(3), "refused 44"),
             };
             capture.extend(record);
             expected += &format!("{} {line}\n", number + 2);

@@ -9,8 +9,6 @@ use crate::table::{Reception, StreamTable};
 pub enum Outcome<'a> {
     Frame(Reception<'a>),
     Admitted,
-    /// The stream of this id is removed.
-    Removed(u64),
 }
 
 /// Carries out a whole record, given without its length bytes, on the table. A
@@ -21,7 +19,6 @@ pub fn carry_out<'a>(table: &mut StreamTable, record: &'a [u8]) -> Result<Outcom
             table.receive(frame, arrival).map(Outcome::Frame)
         }
         CaptureRecord::Admit { id, limit } => table.admit(id, limit).map(|()| Outcome::Admitted),
-        CaptureRecord::Remove(id) => table.remove(id).map(|()| Outcome::Removed(id)),
     }
 }
 
@@ -31,6 +28,7 @@ mod tests {
     use crate::samples::{
         admit_record, frame_record, limited_record, record, remove_record, sound, stamped,
     };
+    use crate::stream::StreamRecord;
 
     #[test]
     fn each_kind_of_record() {
@@ -41,23 +39,42 @@ mod tests {
                     (frame.stream_id, presentation.time)
                 }
                 Outcome::Admitted => (1, 0),
-                Outcome::Removed(id) => (id, 0),
             })
         };
         let frame = frame_record(1000, &stamped(sound(7, &[]), 3000));
         assert_eq!(come_to(frame.clone()), Err(Refusal::StreamNotAdmitted));
         assert_eq!(come_to(admit_record(7)), Ok((1, 0)));
         assert_eq!(come_to(admit_record(7)), Err(Refusal::AlreadyAdmitted));
-        assert_eq!(come_to(frame.clone()), Ok((7, 3000)));
+        assert_eq!(come_to(frame), Ok((7, 3000)));
         assert_eq!(come_to(frame_record(0, &[])), Err(Refusal::FrameTooShort));
         assert_eq!(come_to(record(4, &[])), Err(Refusal::RecordKind));
-        assert_eq!(come_to(remove_record(7)), Ok((7, 0)));
-        assert_eq!(come_to(remove_record(7)), Err(Refusal::RemovedNotAdmitted));
-        assert_eq!(come_to(frame), Err(Refusal::StreamNotAdmitted));
-        assert_eq!(come_to(limited_record(7, 1 << 31)), Err(Refusal::LimitTooLarge));
-        assert_eq!(come_to(limited_record(7, 0)), Ok((1, 0)));
         assert_eq!(come_to(limited_record(7, 1 << 31)), Err(Refusal::AlreadyAdmitted));
-        assert_eq!(come_to(admit_record(7)), Err(Refusal::AlreadyAdmitted));
+        assert_eq!(come_to(limited_record(8, 1 << 31)), Err(Refusal::LimitTooLarge));
+        assert_eq!(come_to(limited_record(8, 0)), Ok((1, 0)));
+        assert_eq!(come_to(limited_record(8, 1 << 31)), Err(Refusal::AlreadyAdmitted));
+        assert_eq!(come_to(admit_record(8)), Err(Refusal::AlreadyAdmitted));
         assert_eq!(come_to(record(5, &[0; 8])), Err(Refusal::RecordLength));
+    }
+
+    #[test]
+    fn removals_change_nothing() {
+        let table = &mut StreamTable::new();
+        let frame = frame_record(1000, &stamped(sound(7, &[]), 3000));
+        let retired = Err(Refusal::RemovalRetired);
+        assert_eq!(carry_out(table, &remove_record(7)[2..]), retired);
+        carry_out(table, &admit_record(7)[2..]).unwrap();
+        carry_out(table, &frame[2..]).unwrap();
+        let before: Vec<StreamRecord> = table.admitted().copied().collect();
+        for removal in [remove_record(7), remove_record(8), remove_record(7)] {
+            assert_eq!(carry_out(table, &removal[2..]), retired);
+            assert!(table.admitted().eq(&before));
+        }
+        // Of another length, with an id and without one.
+        for body in [&[][..], &7_u64.to_be_bytes()[..7], &[0, 0, 0, 0, 0, 0, 0, 7, 0]] {
+            assert_eq!(carry_out(table, &record(3, body)[2..]), Err(Refusal::RecordLength));
+            assert!(table.admitted().eq(&before));
+        }
+        assert_eq!(carry_out(table, &admit_record(7)[2..]), Err(Refusal::AlreadyAdmitted));
+        assert!(matches!(carry_out(table, &frame[2..]), Ok(Outcome::Frame(_))));
     }
 }

@@ -2,7 +2,7 @@
 //!
 //! `second_report [FILE]` goes through the capture named as `second_list` does; `-`,
 //! or no name, stands for standard input. Then it prints one line for each stream
-//! that is still admitted, in table order:
+//! that was admitted, in table order:
 //!
 //! - the stream's id;
 //! - its accepted frames;
@@ -13,8 +13,8 @@
 //! - how many ahead or late frames are not in these four, which are over the first
 //!   1,000,000 only.
 //!
-//! All is counted from the stream's last admission on. A cut capture is reported as
-//! far as it goes; after a read error nothing is printed but the message.
+//! All is counted from the stream's admission on. A cut capture is reported as far as
+//! it goes; after a read error nothing is printed but the message.
 //!
 //! This file is a root beside `list.rs`, over rooms that stand there too; from the
 //! bottom: wire, refusal, cip, frame, presentation, stream, table, capture, outcome,

@@ -68,7 +68,7 @@ pub fn limited_record(id: u64, limit: u32) -> Vec<u8> {
     record(5, &[&id.to_be_bytes()[..], &limit.to_le_bytes()].concat())
 }
 
-/// The record of a removal.
+/// The record of a removal, which is no longer obeyed (request #109).
 pub fn remove_record(id: u64) -> Vec<u8> {
     record(3, &id.to_be_bytes())
 }

@@ -1,4 +1,4 @@
-//! The stream table: admission, removal and receiving.
+//! The stream table: admission and receiving.
 
 use crate::frame::{parse_frame, Frame};
 use crate::presentation::{Presentation, LARGEST_LIMIT};
@@ -45,15 +45,6 @@ impl StreamTable {
             return Err(Refusal::NoUnusedRecord);
         };
         *unused = StreamRecord::admitted(id, limit);
-        Ok(())
-    }
-
-    /// Removes a stream; its record becomes unused with every field zero.
-    pub fn remove(&mut self, id: u64) -> Result<(), Refusal> {
-        let Some(record) = self.find(id) else {
-            return Err(Refusal::RemovedNotAdmitted);
-        };
-        *record = StreamRecord::default();
         Ok(())
     }
 
@@ -161,52 +152,37 @@ mod tests {
     #[test]
     fn table_places() {
         let mut streams = StreamTable::new();
-        assert_eq!(streams.remove(0), Err(Refusal::RemovedNotAdmitted));
-        for id in 0..64 {
+        // In the order of admission, whatever the ids are.
+        let ids: Vec<u64> = (0..64_u64).map(|place| place * 37 % 64).collect();
+        for (place, &id) in ids.iter().enumerate() {
+            assert_eq!(streams.records[place], StreamRecord::default());
             assert_eq!(streams.admit(id, id as u32), Ok(()));
+            assert_eq!(streams.records[place], StreamRecord::admitted(id, id as u32));
         }
-        assert_eq!(streams.admit(63, 0), Err(Refusal::AlreadyAdmitted));
+        assert!(streams.admitted().map(|record| record.id).eq(ids.iter().copied()));
+        let before = streams.records;
+        for &id in &ids {
+            assert_eq!(streams.admit(id, 0), Err(Refusal::AlreadyAdmitted));
+        }
         assert_eq!(streams.admit(64, 0), Err(Refusal::NoUnusedRecord));
-        assert_eq!(streams.remove(5), Ok(()));
-        assert_eq!(streams.records[5], StreamRecord::default());
-        assert_eq!(streams.remove(9), Ok(()));
-        assert_eq!(streams.admit(u64::MAX, 7), Ok(()));
-        assert_eq!(streams.records[5], StreamRecord::admitted(u64::MAX, 7));
-        assert_eq!(streams.records[9], StreamRecord::default());
-        let ids: Vec<u64> = streams.admitted().map(|record| record.id).collect();
-        let lowest = [0, 1, 2, 3, 4, u64::MAX, 6, 7, 8, 10];
-        assert_eq!((&ids[..10], ids.len()), (&lowest[..], 63));
+        assert_eq!(streams.records, before);
     }
 
     #[test]
-    fn admitted_again_starts_anew() {
+    fn admitted_twice_goes_on() {
         let mut streams = table(0);
-        let first = with(sound(0, &[]), 20, 4);
-        assert_eq!(streams.receive(&first, 0).unwrap().flags, Flags::default());
-        streams.remove(0).unwrap();
-        assert!(streams.receive(&sound(0, &[]), 0).is_err());
-        streams.admit(0, 0).unwrap();
-        let anew = with(sound(0, &[]), 20, 9);
-        assert_eq!(streams.receive(&anew, 0).unwrap().flags, Flags::default());
-    }
-
-    #[test]
-    fn no_count_and_no_tag_outlive_a_removal() {
-        let mut streams = table(1);
-        let deck = |dbc| with(sound(1, &[]), 45, dbc);
-        // Sequence numbers don't go on here.
-        let none = Flags { sequence: true, ..Flags::default() };
-        streams.receive(&deck(4), 0).unwrap();
-        streams.remove(1).unwrap();
-        streams.admit(1, LARGEST_LIMIT).unwrap();
-        let camera = tagged_0(1, &[]);
-        assert_eq!(streams.receive(&camera, 0).unwrap().flags, Flags::default());
-        assert_eq!(streams.receive(&camera, 0).unwrap().flags, none);
-        let changed = Flags { format: true, ..none };
-        assert_eq!(streams.receive(&deck(9), 0).unwrap().flags, changed);
-        streams.remove(1).unwrap();
-        streams.admit(1, LARGEST_LIMIT).unwrap();
-        assert_eq!(streams.receive(&camera, 0).unwrap().flags, Flags::default());
+        let none = Flags::default();
+        streams.receive(&with(sound(0, &[]), 20, 4), 0).unwrap();
+        let next = with(sound(0, &[]), 20, 5);
+        for flags in [none, Flags { sequence: true, ..none }] {
+            assert_eq!(streams.admit(0, 0), Err(Refusal::AlreadyAdmitted));
+            assert_eq!(streams.receive(&next, 0).unwrap().flags, flags);
+        }
+        // One that is admitted later starts by itself.
+        assert!(streams.receive(&sound(1, &[]), 0).is_err());
+        streams.admit(1, 0).unwrap();
+        assert_eq!(streams.receive(&next, 0).unwrap().flags, Flags { sequence: true, ..none });
+        assert_eq!(streams.receive(&sound(1, &[]), 0).unwrap().flags, none);
     }
 
     #[test]
@@ -262,7 +238,7 @@ mod tests {
     }
 
     #[test]
-    fn limits_are_kept_until_removal() {
+    fn limits_are_kept() {
         let mut streams = table(1);
         streams.admit(2, 50).unwrap();
         // Neither refused admissions nor refused frames change them.
@@ -271,13 +247,6 @@ mod tests {
             assert!(streams.receive(&with(sound(2, &[]), 44, 0x18), 1000).is_err());
             assert_eq!(kind_ahead_by(&mut streams, 2, 50), TimeKind::Ahead);
             assert_eq!(kind_ahead_by(&mut streams, 2, 51), TimeKind::Far);
-        }
-        for limit in [60, 40, 0] {
-            streams.remove(2).unwrap();
-            assert_eq!(streams.records[1], StreamRecord::default());
-            streams.admit(2, limit).unwrap();
-            assert_eq!(kind_ahead_by(&mut streams, 2, limit), TimeKind::Ahead);
-            assert_eq!(kind_ahead_by(&mut streams, 2, limit + 1), TimeKind::Far);
         }
     }
 }

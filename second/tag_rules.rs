@@ -106,7 +106,7 @@ pub struct Kept {
     pub format: [u8; 4],
 }
 
-/// What is kept of a stream that is newly admitted.
+/// What is rightly kept of a stream that is newly admitted.
 pub const NEW: Kept =
     Kept { seen: false, sequence: 0, mr: false, tag: None, count: None, format: [0; 4] };
 
@@ -144,8 +144,8 @@ pub struct Rules {
     after_tag_0: fn(Kept, &Sent) -> Kept,
     after_tag_1: fn(Kept, &Sent) -> Kept,
     after_refusal: fn(Kept, &Sent) -> Kept,
-    /// What is kept of a stream that is admitted, given what was before its removal.
-    pub admitted: fn(Kept) -> Kept,
+    /// What is kept of a stream that is newly admitted.
+    pub admitted: Kept,
 }
 
 /// The rules as the papers have them.
@@ -182,7 +182,7 @@ const RIGHT: Rules = Rules {
         format: sent.format(),
     },
     after_refusal: |kept, _| kept,
-    admitted: |_| NEW,
+    admitted: NEW,
 };
 
 /// Rules that keep something else after tag 0.
@@ -428,15 +428,10 @@ pub const FAULTY_READERS: &[(&str, Rules)] = &[
         "format flag by the tag alone",
         flagging(|kept, sent| kept.tag.is_some_and(|tag| tag != sent.tag)),
     ),
-    ("format flag of tag 1 first", Rules { admitted: |_| Kept { tag: Some(0), ..NEW }, ..RIGHT }),
+    ("format flag of tag 1 first", Rules { admitted: Kept { tag: Some(0), ..NEW }, ..RIGHT }),
     (
         "format flag of tag 0 first",
         flagging(|kept, sent| !kept.seen && sent.tag == 0 || (RIGHT.format)(kept, sent)),
-    ),
-    ("tag before removal", Rules { admitted: |before| Kept { tag: before.tag, ..NEW }, ..RIGHT }),
-    (
-        "count before removal",
-        Rules { admitted: |before| Kept { count: before.count, ..NEW }, ..RIGHT },
     ),
     (
         "tag of a refused frame",

@@ -30,9 +30,7 @@
 //!
 //! - `tags 1 0 seq=break`, and the same of `0 1` and `0 0`, of `seq=ok`, `mr=ok` and
 //!   `mr=change`: the tags of the frame before and of this one, and what is listed.
-//! - `tag=0 first`, `tag=1 first`: the first after the stream's first admission.
-//! - `tag=0 first, admitted again after 1`, and the same of every two tags: the first after
-//!   another admission, and the last tag before it.
+//! - `tag=0 first`, `tag=1 first`: the first after the stream's admission.
 //! - `tags mixed with no flag but format`: the stream's twentieth since admission, of which
 //!   at least five have each tag, and none raised a flag but format.
 //! - `tags 0 and 1 by turns`: the last twelve are of two streams by turns, the one with
@@ -69,17 +67,10 @@ use crate::table::Reception;
 use crate::tag_rules::{readers, Answer, Kept, Sent, FAULTY_READERS, NEW};
 use std::collections::BTreeMap;
 
-/// What each reader keeps of a stream that was never admitted.
-fn never_admitted() -> Vec<Kept> {
-    readers().map(|_| NEW).collect()
-}
-
-/// A stream since its last admission.
+/// An admitted stream.
 struct Stream {
     /// What each reader keeps, the right one first.
     kept: Vec<Kept>,
-    /// The last tag before the admission, if there was one.
-    tag_before: Option<u8>,
     /// Accepted frames of tag 0 and of tag 1.
     frames: [u32; 2],
     /// Those of tag 0 since the last of tag 1.
@@ -115,8 +106,6 @@ impl Turns {
 /// The tags of a capture's streams, as the records so far give them.
 pub struct Tags {
     streams: BTreeMap<u64, Stream>,
-    /// What each reader kept of streams that are removed.
-    removed: BTreeMap<u64, Vec<Kept>>,
     /// What each reader keeps of the last accepted frame's stream.
     last: Vec<Kept>,
     /// Whether each faulty reader was told from the right one.
@@ -219,18 +208,15 @@ impl Stream {
                 cases.push("tags 0 1, format all 0".into());
             }
         }
-        match (kept.tag, self.tag_before) {
-            (Some(1), _) if tag == 1 => {}
-            (Some(last), _) => {
+        match kept.tag {
+            Some(1) if tag == 1 => {}
+            Some(last) => {
                 let seq = if listed.flags.sequence { "break" } else { "ok" };
                 let mr = if listed.flags.mr { "change" } else { "ok" };
                 cases.push(format!("tags {last} {tag} seq={seq}"));
                 cases.push(format!("tags {last} {tag} mr={mr}"));
             }
-            (None, None) => cases.push(format!("tag={tag} first")),
-            (None, Some(before)) => {
-                cases.push(format!("tag={tag} first, admitted again after {before}"));
-            }
+            None => cases.push(format!("tag={tag} first")),
         }
         self.frames[usize::from(tag)] += 1;
         self.bare = if tag == 0 { self.bare + 1 } else { 0 };
@@ -248,8 +234,7 @@ impl Tags {
     pub fn new() -> Tags {
         Tags {
             streams: BTreeMap::new(),
-            removed: BTreeMap::new(),
-            last: never_admitted(),
+            last: readers().map(|_| NEW).collect(),
             told: vec![false; FAULTY_READERS.len()],
             turns: Turns::default(),
             frames: [false; 4],
@@ -259,17 +244,8 @@ impl Tags {
 
     /// Takes in an admission.
     fn admission(&mut self, id: u64) {
-        let before = self.removed.remove(&id).unwrap_or_else(never_admitted);
-        let tag_before = before[0].tag;
-        let kept = readers().zip(before).map(|(rules, kept)| (rules.admitted)(kept)).collect();
-        let stream = Stream { kept, tag_before, frames: [0; 2], bare: 0, flagged: false };
-        self.streams.insert(id, stream);
-    }
-
-    /// Takes in a removal.
-    fn removal(&mut self, id: u64) {
-        let kept = self.streams.remove(&id).map(|stream| stream.kept);
-        self.removed.extend(kept.map(|kept| (id, kept)));
+        let kept = readers().map(|rules| rules.admitted).collect();
+        self.streams.insert(id, Stream { kept, frames: [0; 2], bare: 0, flagged: false });
     }
 
     /// What each reader makes of a frame with nothing wrong before its tag.
@@ -377,10 +353,6 @@ pub fn tag_cases(
             tags.admission(id);
             vec![]
         }
-        (Ok(CaptureRecord::Remove(id)), Ok(_)) => {
-            tags.removal(id);
-            vec![]
-        }
         _ => vec![],
     }
 }
@@ -389,9 +361,7 @@ pub fn tag_cases(
 mod tests {
     use super::*;
     use crate::outcome::carry_out;
-    use crate::samples::{
-        admit_record, frame_record, of_length, remove_record, sound, stamped, tagged_0, with,
-    };
+    use crate::samples::{admit_record, frame_record, of_length, sound, stamped, tagged_0, with};
     use crate::table::StreamTable;
 
     /// What the last of these records is a case of, and then the end of the capture.
@@ -524,13 +494,12 @@ mod tests {
 
     #[test]
     fn first_frames() {
-        let (record, bare) = (|frame: Vec<u8>| frame_record(0, &frame), camera(0, &[]));
-        let last = |records: &[Vec<u8>]| all_said(records).0.pop().unwrap();
-        assert_eq!(last(&[admit_record(1), record(deck(0, 0))]), "tag=1 first");
-        let again = [admit_record(1), record(bare.clone()), remove_record(1), admit_record(1)];
-        let then = |frame| last(&[&again[..], &[record(frame)]].concat());
-        assert_eq!(then(bare), "tag=0 first, admitted again after 0");
-        assert_eq!(then(deck(7, 0)), "tag=1 first, admitted again after 0");
+        assert_eq!(said(&[deck(0, 0)]), "tag=1 first");
+        assert!(said(&[camera(0, &[])]).ends_with("; tag=0 first"));
+        // Not of the stream that is admitted, and then the second of that one.
+        assert_eq!(said(&[sound(2, &[])]), "");
+        assert_eq!(said(&[with(deck(0, 0), 40, 0xC0), deck(0, 0)]), "tag=1 first");
+        assert!(said(&[deck(0, 0), camera(1, &[])]).ends_with("; tags 1 0 mr=ok"));
     }
 
     #[test]
@@ -601,25 +570,18 @@ mod tests {
         ];
         let frames = frames.iter().map(|frame| frame_record(0, frame)).collect();
         let other = frame_record(0, &tagged_0(2, &[]));
-        let other_deck = |dbc| frame_record(0, &with(sound(2, &[]), 45, dbc));
-        let again = vec![
+        let beside_another = vec![
             frame_record(0, &deck(19, 10)),
             admit_record(2),
             other.clone(),
-            other_deck(100),
+            frame_record(0, &with(sound(2, &[]), 45, 100)),
             frame_record(0, &deck(20, 11)),
-            other.clone(),
-            frame_record(0, &deck(21, 12)),
-            remove_record(2),
-            admit_record(2),
-            other.clone(),
-            other_deck(7),
             other,
-            remove_record(2),
-            admit_record(2),
-            other_deck(9),
+            frame_record(0, &deck(21, 12)),
+            admit_record(3),
+            frame_record(0, &sound(3, &[])),
         ];
-        let records = [vec![admit_record(1)], frames, again].concat();
+        let records = [vec![admit_record(1)], frames, beside_another].concat();
         let (mut table, mut tags) = (StreamTable::new(), Tags::new());
         let mut told = vec![];
         for record in &records {

@@ -23,20 +23,13 @@ impl Report {
 
     /// Takes in one whole record.
     fn record(&mut self, record: &[u8]) {
-        match carry_out(&mut self.table, record) {
-            Ok(Outcome::Frame(reception)) => {
-                let visit = self.visits.entry(reception.frame.stream_id).or_default();
-                visit.add(&reception.presentation);
-            }
-            // The stream has no visit when it is admitted again.
-            Ok(Outcome::Removed(id)) => {
-                self.visits.remove(&id);
-            }
-            Ok(Outcome::Admitted) | Err(_) => {}
+        if let Ok(Outcome::Frame(reception)) = carry_out(&mut self.table, record) {
+            let visit = self.visits.entry(reception.frame.stream_id).or_default();
+            visit.add(&reception.presentation);
         }
     }
 
-    /// Writes a line for each stream still admitted, in table order.
+    /// Writes a line for each admitted stream, in table order.
     fn write_lines(&self, out: &mut impl Write) -> io::Result<()> {
         for record in self.table.admitted() {
             let visit = self.visits.get(&record.id).copied().unwrap_or_default();
@@ -121,7 +114,7 @@ mod tests {
             frame_record(1000, &stamped(sound(2, &[]), 3000)),
             remove_record(1),
         ];
-        assert_eq!(reported(&capture), "");
+        assert_eq!(reported(&capture), ONE_FRAME);
         assert_eq!(reported(&capture[..3]), ONE_FRAME);
         assert_eq!(reported(&capture[..1]), NO_FRAME);
         assert_eq!(reported(&[]), "");
@@ -217,39 +210,41 @@ mod tests {
             admit_record(3),
             offset_record(3, 4),
             remove_record(7),
-            // At the place that 7 had.
+            // Not at the place of 7, which stays admitted.
             admit_record(0),
             admit_record(7),
             offset_record(7, 4),
         ];
-        let lines = format!("0 {none}\n{greatest} {none}\n3 {one}\n7 {one}\n");
+        let lines = format!("7 {one}\n{greatest} {none}\n3 {one}\n0 {none}\n");
         assert_eq!(reported(&capture), lines);
     }
 
     #[test]
     fn a_full_table() {
-        let admissions: Vec<Vec<u8>> = (0..65).rev().map(admit_record).collect();
-        let lines = reported(&admissions);
+        let mut capture: Vec<Vec<u8>> = (0..65).rev().map(admit_record).collect();
+        capture.extend([remove_record(9), admit_record(0), admit_record(9)]);
+        let lines = reported(&capture);
         let ids: Vec<&str> = lines.lines().map(|line| line.split(' ').next().unwrap()).collect();
         let expected: Vec<String> = (1..65).rev().map(|id: u64| id.to_string()).collect();
         assert_eq!(ids, expected);
     }
 
     #[test]
-    fn removal_drops_the_numbers() {
+    fn removals_keep_the_numbers() {
         let mut capture = vec![
-            limited_record(1, i32::MAX as u32 - 1),
+            limited_record(1, 9),
             offset_record(1, i32::MIN),
-            offset_record(1, i32::MIN + 1),
-            offset_record(1, i32::MAX - 1),
-            offset_record(1, i32::MAX),
+            offset_record(1, -5),
+            offset_record(1, 10),
             remove_record(1),
-            offset_record(1, 6),
-            admit_record(1),
         ];
-        assert_eq!(reported(&capture), NO_FRAME);
-        capture.push(offset_record(1, 2000));
-        assert_eq!(reported(&capture), ONE_FRAME);
+        // The sequence number is the same in all frames.
+        let before = "1 3 2 0 0 0 0 0 0 1 0 1 1 -5 -5 -5 -5/1 0\n";
+        assert_eq!(reported(&capture), before);
+        capture.push(admit_record(1));
+        assert_eq!(reported(&capture), before);
+        capture.extend([offset_record(1, 7), remove_record(1), offset_record(1, 10)]);
+        assert_eq!(reported(&capture), "1 5 4 0 0 0 0 0 0 1 1 1 2 -5 7 2 2/2 0\n");
     }
 
     #[test]
@@ -262,7 +257,10 @@ mod tests {
             limited_record(1, 0),
             limited_record(2, u32::MAX),
             remove_record(2),
+            remove_record(1),
             record(3, &[0; 7]),
+            record(3, &[&1_u64.to_be_bytes()[..], &[0; 4]].concat()),
+            record(259, &1_u64.to_be_bytes()),
             record(4, &1_u64.to_be_bytes()),
             record(5, &2_u64.to_be_bytes()),
             frame_record(0, &sound(1, &[])[..41]),
@@ -277,7 +275,7 @@ mod tests {
     fn cut_captures_and_pieces() {
         let whole = [admit_record(1), offset_record(1, 2000)].concat();
         let capture = [whole.clone(), remove_record(1)].concat();
-        for length in whole.len()..capture.len() {
+        for length in whole.len()..=capture.len() {
             for piece in [1, 7, length] {
                 let (lines, answer) = report(&mut Slow::new(&capture[..length], piece));
                 assert!(answer.is_ok());

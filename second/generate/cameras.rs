@@ -2,7 +2,7 @@
 
 use crate::captures::Capture;
 use crate::chance::Chance;
-use crate::damage::{spoil, FIELD_CHECKS};
+use crate::damage::{spoil, spoiled, FIELD_CHECKS};
 use crate::frames::{Frame, LONGEST_BARE_PAYLOAD};
 use crate::limits;
 use crate::senders::{stream_ids, Sender};
@@ -16,6 +16,12 @@ enum Tags {
     /// Mostly the one that the frame before had.
     Runs,
     Any,
+}
+
+impl Tags {
+    fn any(chance: &mut Chance) -> Tags {
+        chance.pick(&[Tags::Zero, Tags::One, Tags::Runs, Tags::Any, Tags::Any])
+    }
 }
 
 /// A stream.
@@ -96,11 +102,12 @@ impl Room {
             spoil(chance, &mut frame, number);
         }
         spoil(chance, &mut frame, 12);
-        capture.frame(at, &frame.bytes());
+        let bytes = if chance.one_in(12) { spoiled(chance, &mut frame, 2) } else { frame.bytes() };
+        capture.frame(at, &bytes);
     }
 
-    /// Removes the stream, perhaps sends a frame that is refused for it, and admits the
-    /// stream again. Its sender starts anew or goes on.
+    /// Removes the stream, perhaps sends a frame, and admits the stream: again, which is
+    /// refused, or for the first time. Its sender starts anew or goes on.
     fn admit_again(&mut self, chance: &mut Chance, capture: &mut Capture) {
         capture.remove(self.id());
         if chance.one_in(3) {
@@ -113,8 +120,14 @@ impl Room {
     }
 }
 
-/// What comes next: mostly a frame, and before it now and then something that is wrong.
-fn turn(chance: &mut Chance, capture: &mut Capture, rooms: &mut [Room]) {
+/// What comes next: mostly a frame, and before it now and then something that is wrong, or
+/// a new stream.
+fn turn(chance: &mut Chance, capture: &mut Capture, rooms: &mut Vec<Room>) {
+    if chance.one_in(20) {
+        let (id, tags) = (chance.next(), Tags::any(chance));
+        limits::admit(chance, capture, id, true);
+        rooms.push(Room::new(chance, id, tags));
+    }
     let which = chance.below(rooms.len());
     let room = &mut rooms[which];
     match chance.below(20) {
@@ -146,12 +159,14 @@ fn troubled(chance: &mut Chance) -> Capture {
     let mut rooms: Vec<Room> = stream_ids(chance, count)
         .into_iter()
         .map(|id| {
-            let tags = chance.pick(&[Tags::Zero, Tags::One, Tags::Runs, Tags::Any, Tags::Any]);
+            let tags = Tags::any(chance);
             Room::new(chance, id, tags)
         })
         .collect();
     for room in &rooms {
-        limits::admit(chance, &mut capture, room.id(), true);
+        if !chance.one_in(4) {
+            limits::admit(chance, &mut capture, room.id(), true);
+        }
     }
     while !capture.full() {
         turn(chance, &mut capture, &mut rooms);

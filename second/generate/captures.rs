@@ -48,6 +48,7 @@ impl Capture {
         self.kind(5, &[&id.to_be_bytes()[..], &limit.to_le_bytes()].concat());
     }
 
+    /// Puts in a removal, which is no longer obeyed (request #109).
     pub fn remove(&mut self, id: u64) {
         self.kind(3, &id.to_be_bytes());
     }
@@ -67,6 +68,11 @@ impl Capture {
             1 => chance.below(whole),
             _ => chance.pick(&[1, 1, 2, 3, 4, 5, 11, 12, 13, 14, 15, 50, 60]).min(whole - 1),
         };
+        self.keep_of_last(kept);
+    }
+
+    /// Keeps so many bytes of the last record.
+    pub fn keep_of_last(&mut self, kept: usize) {
         self.bytes.truncate(self.last + kept);
     }
 }

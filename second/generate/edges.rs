@@ -93,8 +93,9 @@ pub fn lengths(chance: &mut Chance) -> Capture {
     capture
 }
 
-/// Admissions past the table's end, removals, and admissions again; in every second
-/// capture with transit limits, some too large.
+/// Admissions up to the table's end and past it, among frames, and of streams that are
+/// admitted already; removals free no place for them. In every second capture there are
+/// transit limits too, some too large.
 pub fn admissions(chance: &mut Chance) -> Capture {
     let mut capture = Capture::new(SMALL);
     let limited = chance.flip();
@@ -107,7 +108,9 @@ pub fn admissions(chance: &mut Chance) -> Capture {
     if chance.one_in(3) {
         capture.remove(ids[0]);
     }
-    for &id in &ids {
+    // The table is full then, or nearly.
+    let early = if chance.flip() { count } else { chance.within(50, 63) };
+    for &id in ids.iter().take(early) {
         limits::admit(chance, &mut capture, id, limited);
     }
     for _ in 0..chance.within(20, 120) {
@@ -118,7 +121,11 @@ pub fn admissions(chance: &mut Chance) -> Capture {
         let at = arrival(chance);
         match chance.below(6) {
             0 => limits::admit(chance, &mut capture, ids[which], limited),
-            1 | 2 => capture.remove(ids[which]),
+            1 => capture.remove(ids[which]),
+            2 => {
+                capture.remove(ids[which]);
+                limits::admit(chance, &mut capture, ids[which], limited);
+            }
             3 => {
                 let id = chance.next();
                 limits::admit(chance, &mut capture, id, limited);
@@ -132,7 +139,8 @@ pub fn admissions(chance: &mut Chance) -> Capture {
 /// Record lengths and kinds at their edges.
 pub fn records(chance: &mut Chance) -> Capture {
     let mut capture = Capture::new(SMALL);
-    let kinds = [0, 1, 1, 2, 2, 3, 3, 4, 5, 5, 6, 255, 256, 257, 512, 1280, 1281, 65_535];
+    let kinds =
+        [0, 1, 1, 2, 2, 3, 3, 3, 4, 5, 5, 6, 255, 256, 257, 259, 512, 768, 771, 1280, 1281, 65_535];
     for _ in 0..chance.within(10, 80) {
         if capture.full() {
             break;
@@ -142,9 +150,9 @@ pub fn records(chance: &mut Chance) -> Capture {
             0 => 0,
             1 => 1,
             2 => 2,
-            3 => 3,
+            3 => chance.within(3, 8),
             4 => 9,
-            5 => 11,
+            5 => chance.pick(&[11, 12]),
             6 => chance.within(2, 70),
             7 if chance.one_in(12) => 65_535,
             8 => chance.pick(&[13, 15]),

@@ -5,6 +5,7 @@ use crate::captures::SMALL;
 use crate::chance::Chance;
 use crate::edges::{admissions, blocks, lengths, padding_counts, records, refusals, times};
 use crate::noise::{noise, turned_bits, turned_bytes};
+use crate::removals::removals;
 use crate::source_packets::source_packets;
 use crate::traffic::{cut, long, traffic};
 use crate::transit::transit_limits;
@@ -19,8 +20,8 @@ pub fn capture(seed: u64, index: u64) -> Vec<u8> {
     if index % 100 == 50 {
         return long(chance).bytes;
     }
-    let capture = match index % 22 {
-        0 => refusals(chance),
+    let capture = match index % 26 {
+        0 | 24 => refusals(chance),
         1 => lengths(chance),
         2 => admissions(chance),
         3 => records(chance),
@@ -35,6 +36,7 @@ pub fn capture(seed: u64, index: u64) -> Vec<u8> {
         15 => padding_counts(chance),
         16 | 17 => transit_limits(chance),
         18..=20 => cameras(chance),
+        21..=23 => removals(chance),
         _ => {
             let records = chance.within(5, 190);
             traffic(chance, SMALL, records)

@@ -7,6 +7,8 @@
 //! - `generate --bench DIR` writes the captures that speed is measured on.
 //! - `generate --drip FILE PIECE` writes FILE to standard output, PIECE bytes at
 //!   a time, each piece flushed.
+//! - `generate --thin DIR FILE..` writes each capture DIR/FILE: FILE with nothing but
+//!   frames after the last admission that is obeyed.
 //! - `generate --edge-questions` writes the questions about cycle time at the edges
 //!   of each rule to standard output.
 //! - `generate --questions SEED` writes those of a long comparison.
@@ -33,8 +35,10 @@ mod measuring;
 mod million;
 mod noise;
 mod questions;
+mod removals;
 mod senders;
 mod source_packets;
+mod thinning;
 mod ticks;
 mod times;
 mod traffic;
@@ -84,6 +88,7 @@ const USAGE: &str = "usage: generate DIR SEED COUNT
        generate --million FILE
        generate --bench DIR
        generate --drip FILE PIECE
+       generate --thin DIR FILE..
        generate --edge-questions
        generate --questions SEED";
 
@@ -102,6 +107,7 @@ fn main() -> ExitCode {
             Ok(piece) => drip(Path::new(file), piece),
             Err(_) => Err(io::Error::other(USAGE)),
         },
+        ["--thin", dir, ref names @ ..] => thinning::write_thinned(Path::new(dir), names),
         [dir, seed, count] => match (seed.parse(), count.parse()) {
             (Ok(seed), Ok(count)) => write_captures(Path::new(dir), seed, count),
             _ => Err(io::Error::other(USAGE)),

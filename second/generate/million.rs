@@ -21,8 +21,8 @@ const EXACT_LIMIT: u32 = 2_147_483_646;
 const UNDER_LIMIT: u32 = 0;
 
 /// Puts in, for each stream, a frame without a stamp, one whose time is below 0, one
-/// half a wrap away, two that are far and two admissions that are refused; none of them
-/// counts towards the million.
+/// half a wrap away and two that are far, and a removal and two admissions, which are
+/// refused; none of them counts towards the million, and none starts it anew.
 fn put_others(chance: &mut Chance, capture: &mut Capture, visitors: [&mut Visitor; 3]) {
     for visitor in visitors {
         visitor.send(chance, capture, (FIRST_ARRIVAL, None));
@@ -31,28 +31,23 @@ fn put_others(chance: &mut Chance, capture: &mut Capture, visitors: [&mut Visito
         for offset in [visitor.limit() as i32 + 1, i32::MAX] {
             visitor.send(chance, capture, (FIRST_ARRIVAL, Some(offset)));
         }
+        capture.remove(visitor.id());
         capture.admit(visitor.id());
         capture.admit_limited(visitor.id(), 7);
     }
 }
 
 /// Writes a capture of three streams whose frames take turns. One has exactly a million
-/// ahead or late frames after its last admission, one has one fewer, and one goes on
-/// past the million with offsets that would show in all that is summed.
+/// ahead or late frames, one has one fewer, and one goes on past the million with offsets
+/// that would show in all that is summed.
 pub fn write_million(path: &Path) -> io::Result<()> {
     let mut out = BufWriter::with_capacity(1 << 20, File::create(path)?);
     let chance = &mut Chance::new(104, 0);
     let mut capture = Capture::new(usize::MAX);
     let [mut over, mut exact, mut under] = [3, 1, 2].map(|id| Visitor::new(chance, id));
     over.admit_limited(&mut capture, OVER_LIMIT);
-    capture.admit(exact.id());
-    under.admit_limited(&mut capture, UNDER_LIMIT);
-    // The numbers up to a removal are dropped.
-    for offset in [-5, 5, 0] {
-        exact.send(chance, &mut capture, (FIRST_ARRIVAL, Some(offset)));
-    }
-    capture.remove(exact.id());
     exact.admit_limited(&mut capture, EXACT_LIMIT);
+    under.admit_limited(&mut capture, UNDER_LIMIT);
 
     for round in 1..=MOST_SUMMED {
         let at = FIRST_ARRIVAL + 125_000 * round;

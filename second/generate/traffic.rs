@@ -50,7 +50,7 @@ fn send_with_trouble(chance: &mut Chance, capture: &mut Capture, sender: &mut Se
 
 /// Puts in a record of the greatest length, or nearly.
 fn longest_record(chance: &mut Chance, capture: &mut Capture) {
-    let kind = chance.pick(&[1, 1, 2, 4, 5]);
+    let kind = chance.pick(&[1, 1, 2, 3, 4, 5]);
     let body = vec![0x5A; 65_533 - chance.below(3)];
     capture.kind(kind, &body);
 }
@@ -65,7 +65,7 @@ pub fn traffic(chance: &mut Chance, size: usize, records: usize) -> Capture {
     let mut senders: Vec<Sender> = ids.iter().map(|&id| Sender::new(chance, id)).collect();
     let busy = if chance.flip() { count } else { count.min(3) };
     for &id in &ids {
-        if !chance.one_in(12) {
+        if !chance.one_in(6) {
             limits::admit(chance, &mut capture, id, limited);
         }
     }
@@ -103,7 +103,11 @@ pub fn traffic(chance: &mut Chance, size: usize, records: usize) -> Capture {
 /// A capture that ends inside its last record, at every kind of place.
 pub fn cut(chance: &mut Chance) -> Capture {
     let mut capture = traffic(chance, 5_000, 12);
-    match chance.below(9) {
+    if chance.one_in(3) {
+        capture.admit(1);
+        capture.remove(1);
+    }
+    match chance.below(10) {
         0 => capture.admit(1),
         1 => capture.remove(1),
         2 => capture.record(&[]),
@@ -111,6 +115,7 @@ pub fn cut(chance: &mut Chance) -> Capture {
         4 => capture.kind(9, &[0; 30]),
         5 => capture.kind(1, &vec![0; 65_533]),
         6 => capture.admit_limited(1, LARGEST_LIMIT),
+        7 => capture.kind(3, &[1; 12]),
         _ => {
             let frame = Frame::sound(chance, 1);
             capture.frame(0, &frame.bytes());

@@ -8,7 +8,7 @@ use crate::limits::{allowed, any, around, too_large, LARGEST_LIMIT};
 use crate::senders::stream_ids;
 use crate::times::{arrival_for, stamp};
 
-/// A stream, and the limit that it was last admitted with.
+/// A stream, and the limit that it is admitted with.
 struct Limited {
     /// The stream's last frame.
     frame: Frame,
@@ -24,7 +24,7 @@ impl Limited {
         self.frame.stream_id
     }
 
-    /// Admits the stream by kind 2, or by kind 5 with another limit.
+    /// Admits the stream by kind 2, or by kind 5 with a limit.
     fn admit(&mut self, chance: &mut Chance, capture: &mut Capture) {
         if chance.one_in(4) {
             self.limit = LARGEST_LIMIT;
@@ -84,20 +84,21 @@ impl Limited {
         }
     }
 
-    /// Removes the stream and admits it again.
+    /// Removes the stream and admits it again, neither of which is obeyed.
     fn admit_again(&mut self, chance: &mut Chance, capture: &mut Capture) {
         capture.remove(self.id());
-        self.admit(chance, capture);
+        self.admit_twice(chance, capture);
     }
 }
 
-/// Removes two streams, and admits them again at each other's place.
+/// Removes two streams and admits them again, as if at each other's place. Their frames
+/// show that each has its limit still.
 fn change_places(chance: &mut Chance, capture: &mut Capture, streams: &mut [Limited]) {
     let [first, second] = [(); 2].map(|()| chance.below(streams.len()));
     capture.remove(streams[first].id());
     capture.remove(streams[second].id());
     for which in [first.max(second), first.min(second)] {
-        streams[which].admit(chance, capture);
+        streams[which].admit_twice(chance, capture);
     }
     for which in [first, second] {
         streams[which].send(chance, capture);
@@ -105,16 +106,17 @@ fn change_places(chance: &mut Chance, capture: &mut Capture, streams: &mut [Limi
 }
 
 /// Puts in admissions of a stream that isn't admitted: first with a limit that is too
-/// large, then perhaps with one that isn't, after which it is removed.
-fn admit_stranger(chance: &mut Chance, capture: &mut Capture) {
+/// large, then, unless the table is full, with one that isn't. The stream is one of
+/// `streams` from then on.
+fn admit_stranger(chance: &mut Chance, capture: &mut Capture, streams: &mut Vec<Limited>) {
     let id = chance.next();
     let mut stranger = Limited::new(chance, id);
     capture.admit_limited(id, too_large(chance));
     stranger.send(chance, capture);
-    if chance.flip() {
+    if streams.len() < 64 {
         stranger.admit(chance, capture);
         stranger.send(chance, capture);
-        capture.remove(id);
+        streams.push(stranger);
     }
 }
 
@@ -131,21 +133,22 @@ fn wrong_record(chance: &mut Chance, capture: &mut Capture, id: u64) {
     capture.kind(kind, &body);
 }
 
-/// What comes next. A frame shows which limit its stream has.
-fn turn(chance: &mut Chance, capture: &mut Capture, streams: &mut [Limited]) {
+/// What comes next. A frame shows which limit its stream has; often it is one of the last
+/// four.
+fn turn(chance: &mut Chance, capture: &mut Capture, streams: &mut Vec<Limited>) {
     let some = if chance.flip() { streams.len() } else { streams.len().min(4) };
-    let which = chance.below(some);
+    let which = streams.len() - 1 - chance.below(some);
     let stream = &mut streams[which];
     match chance.below(16) {
         0 => stream.admit_twice(chance, capture),
         1 | 2 => stream.admit_again(chance, capture),
         3 => return change_places(chance, capture, streams),
-        4 => admit_stranger(chance, capture),
-        5 => {
+        4 | 5 => return admit_stranger(chance, capture, streams),
+        6 => {
             let id = if chance.flip() { stream.id() } else { chance.next() };
             wrong_record(chance, capture, id);
         }
-        6 | 7 => stream.send_refused(chance, capture),
+        7 | 8 => stream.send_refused(chance, capture),
         _ => {}
     }
     stream.send(chance, capture);

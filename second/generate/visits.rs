@@ -1,5 +1,4 @@
-//! Captures for visit reports: many streams, removed and admitted again, each with
-//! offsets of its own kind.
+//! Captures for visit reports: many streams, each with offsets of its own kind.
 
 use crate::captures::{Capture, SMALL};
 use crate::chance::Chance;
@@ -7,7 +6,7 @@ use crate::limits::{self, LARGEST_LIMIT};
 use crate::senders::{stream_ids, Sender};
 use crate::times::{arrival, inside, offset, stamp, HALF_A_WRAP, LEAST_CLEAR};
 
-/// What the frames of a stream are like, from one admission to the next.
+/// What the frames of a stream are like for a while.
 #[derive(Clone, Copy)]
 enum Habit {
     /// There are none.
@@ -128,7 +127,7 @@ impl Visitor {
         self.sender.frame.stream_id
     }
 
-    /// The transit limit that the stream was last admitted with.
+    /// The transit limit that the stream is admitted with.
     pub fn limit(&self) -> u32 {
         self.limit
     }
@@ -162,20 +161,25 @@ impl Visitor {
         self.limit = limit;
     }
 
-    /// Admits the stream, which takes up another habit, so that numbers that it had
-    /// before would show. Where `limited`, it mostly has another transit limit too.
+    /// Admits the stream. Where `limited`, it mostly has a transit limit.
     fn admit(&mut self, chance: &mut Chance, capture: &mut Capture, limited: bool) {
         if limited && !chance.one_in(4) {
             self.admit_limited(capture, limits::allowed(chance));
         } else {
             capture.admit(self.id());
-            self.limit = LARGEST_LIMIT;
         }
+    }
+
+    /// Admits the stream again, which is refused. It takes up another habit, so that it
+    /// would show if the numbers that it had before were dropped.
+    fn admit_again(&mut self, chance: &mut Chance, capture: &mut Capture, limited: bool) {
+        limits::admit(chance, capture, self.id(), limited);
         self.habit = Habit::any(chance);
     }
 }
 
-/// Removes some streams, and admits them again in another order.
+/// Removes some streams and admits them again in another order, after a new one. Where
+/// the table is full there is no place for that, and none of them loses its own.
 fn change_places(
     chance: &mut Chance,
     capture: &mut Capture,
@@ -187,13 +191,14 @@ fn change_places(
     for &visitor in &which {
         capture.remove(visitors[visitor].id());
     }
+    let id = chance.next();
+    limits::admit(chance, capture, id, limited);
     for &visitor in which.iter().rev() {
-        visitors[visitor].admit(chance, capture, limited);
+        visitors[visitor].admit_again(chance, capture, limited);
     }
 }
 
-/// What comes next: frames of a stream, or an admission or removal, often a refused
-/// one.
+/// What comes next: frames of a stream, a removal, or an admission, often a refused one.
 fn turn(chance: &mut Chance, capture: &mut Capture, visitors: &mut [Visitor], limited: bool) {
     let which = chance.below(visitors.len());
     let visitor = &mut visitors[which];
@@ -207,7 +212,7 @@ fn turn(chance: &mut Chance, capture: &mut Capture, visitors: &mut [Visitor], li
         3 => capture.remove(visitor.id()),
         4 => {
             capture.remove(visitor.id());
-            visitor.admit(chance, capture, limited);
+            visitor.admit_again(chance, capture, limited);
         }
         5 => change_places(chance, capture, visitors, limited),
         _ => visitor.visit(chance, capture),
@@ -232,18 +237,23 @@ pub fn visits(chance: &mut Chance) -> Capture {
     let ids = stream_ids(chance, count);
     let mut visitors: Vec<Visitor> = ids.iter().map(|&id| Visitor::new(chance, id)).collect();
     let limited = !chance.one_in(4);
-    for visitor in &mut visitors {
-        visitor.admit(chance, &mut capture, limited);
-    }
-    for _ in 0..chance.within(10, 50 + 10 * count) {
-        if capture.full() {
-            break;
+    // All are admitted at first, or some of them only later.
+    let early = if chance.flip() { count } else { chance.within(0, count) };
+    for part in [0..early, early..count] {
+        for visitor in &mut visitors[part] {
+            visitor.admit(chance, &mut capture, limited);
         }
-        turn(chance, &mut capture, &mut visitors, limited);
+        for _ in 0..chance.within(5, 25 + 5 * count) {
+            if capture.full() {
+                break;
+            }
+            turn(chance, &mut capture, &mut visitors, limited);
+        }
     }
-    // Fills the holes. The others are admitted still, and must not start anew.
+    // All are admitted still, if there was a place, and must not start anew.
     if chance.flip() {
         for visitor in &visitors {
+            capture.remove(visitor.id());
             limits::admit(chance, &mut capture, visitor.id(), limited);
         }
     }

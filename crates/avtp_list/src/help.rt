@@ -2,7 +2,7 @@
 use libc::STDERR_FILENO;
 
 pub(crate) fn show_version() {
-    messages::write(b"avtp_list", b"avtp_list 1.5\n");
+    messages::write(b"avtp_list", b"avtp_list 1.6\n");
 }
 
 // No capture is named, and standard input is a terminal.
@@ -32,7 +32,8 @@ pub(crate) fn show_help() {
         lowest byte first; a stream id stands as it does in a frame.\n\
         \x20 kind 1      a frame: the time of its arrival in nanoseconds (eight bytes),\n\
         \x20             then the Ethernet frame, from destination to payload\n\
-        \x20 kind 2, 3   a stream is admitted, or removed: its id (eight bytes)\n\
+        \x20 kind 2      a stream is admitted: its id (eight bytes)\n\
+        \x20 kind 3      a removal, refused with 44: not to be written any more\n\
         \x20 kind 5      a stream is admitted with a transit limit: its id, then the limit\n\
         \x20             in nanoseconds (four bytes, at most 2147483647)\n\
         \n\

@@ -2,7 +2,7 @@
 use libc::STDERR_FILENO;
 
 pub(crate) fn show_version() {
-    messages::write(b"avtp_report", b"avtp_report 1.4\n");
+    messages::write(b"avtp_report", b"avtp_report 1.5\n");
 }
 
 // No capture is named, and standard input is a terminal.
@@ -20,8 +20,8 @@ pub(crate) fn show_help() {
         b"usage: avtp_report [FILE]\n\
         \n\
         Prints the visit report of a capture of AVTP streams: a line for each stream\n\
-        that is admitted at its end, and no other line. Without FILE, or where FILE is\n\
-        -, standard input is read.\n\
+        that it admits, in their order, and no other line. Without FILE, or where FILE\n\
+        is -, standard input is read.\n\
         \n\
         \x20 -h, --help  print this help\n\
         \x20 --version   print the version\n\
@@ -29,7 +29,7 @@ pub(crate) fn show_help() {
         \n\
         The columns of a line, decimal, with a space between:\n\
         \x20  1      the stream's id\n\
-        \x20  2      accepted frames since it was last admitted\n\
+        \x20  2      accepted frames since it was admitted\n\
         \x20  3-6    of these: sequence breaks, block breaks, format changes, mr changes\n\
         \x20  7-13   how many had a time of each kind: none, cut, outside, late, ahead,\n\
         \x20         unclear, far\n\

@@ -10,7 +10,7 @@ use lib.ListN.{length}
 use Rattle.refusal.specs.Refusals.{firstOf}
 use Rattle.capture.specs.Sizes.{RecordSizes}
 use Rattle.capture.specs.Numbers.{heldNumber, frontNumber, RecordNumbers}
-use Rattle.capture.specs.Records.{Held, damaged, arrival, admission, removal, end, cut, whole, lengthOf, kindOf, sizeOf, bodyOf, wrongLength, unknownKind, recordChecks, heldBy, frontBy, entryOf}
+use Rattle.capture.specs.Records.{Held, damaged, arrival, admission, end, cut, whole, lengthOf, kindOf, sizeOf, bodyOf, wrongLength, retiredKind, unknownKind, recordChecks, heldBy, frontBy, entryOf}
 
 -- a length n and a kind k were read, and something is left
 module _ (rest : List ℕ) {n k : ℕ} (some : length rest ≡ 0 → ⊥) (en : n ≡ lengthOf rest) (ek : k ≡ kindOf rest) where
@@ -24,13 +24,18 @@ module _ (rest : List ℕ) {n k : ℕ} (some : length rest ≡ 0 → ⊥) (en : 
     wrong e = rw (ne-eqb (length rest) 0 some, ← en, ← ek, le-ltb (length rest) (2 + n) all, ← e)
 
     module _ (right : false ≡ wrongLength n k) where
-      pub unknown : true ≡ unknownKind k → whole (2 + n) (damaged 43) ≡ entryOf rest
+      pub retired : true ≡ retiredKind k → whole (2 + n) (damaged 44) ≡ entryOf rest
       unfolding entryOf firstOf
-      unknown e = rw (ne-eqb (length rest) 0 some, ← en, ← ek, le-ltb (length rest) (2 + n) all, ← right, ← e)
+      retired e = rw (ne-eqb (length rest) 0 some, ← en, ← ek, le-ltb (length rest) (2 + n) all, ← right, ← e)
 
-      pub known : false ≡ unknownKind k → whole (2 + n) (bodyOf k rest) ≡ entryOf rest
-      unfolding entryOf firstOf
-      known e = rw (ne-eqb (length rest) 0 some, ← en, ← ek, le-ltb (length rest) (2 + n) all, ← right, ← e)
+      module _ (obeyed : false ≡ retiredKind k) where
+        pub unknown : true ≡ unknownKind k → whole (2 + n) (damaged 43) ≡ entryOf rest
+        unfolding entryOf firstOf
+        unknown e = rw (ne-eqb (length rest) 0 some, ← en, ← ek, le-ltb (length rest) (2 + n) all, ← right, ← obeyed, ← e)
+
+        pub known : false ≡ unknownKind k → whole (2 + n) (bodyOf k rest) ≡ entryOf rest
+        unfolding entryOf firstOf
+        known e = rw (ne-eqb (length rest) 0 some, ← en, ← ek, le-ltb (length rest) (2 + n) all, ← right, ← obeyed, ← e)
 
 -- ---- for callers
 
@@ -82,14 +87,13 @@ numbered rest some = rw (ne-eqb (length rest) 0 some) (of-front (eqb n 41) refl)
     n : ℕ
     n = firstOf (recordChecks rest)
 
-    of-body : (one two five : Bool) (L a m b n c : ℕ) → heldNumber (cond one (arrival L) (cond two (admission a m) (cond five (admission b n) (removal c)))) ≡ 0
-    of-body true two five L a m b n c = refl
-    of-body false true five L a m b n c = refl
-    of-body false false true L a m b n c = refl
-    of-body false false false L a m b n c = refl
+    of-body : (one two : Bool) (L a m b n : ℕ) → heldNumber (cond one (arrival L) (cond two (admission a m) (admission b n))) ≡ 0
+    of-body true two L a m b n = refl
+    of-body false true L a m b n = refl
+    of-body false false L a m b n = refl
 
     of-held : (k : ℕ) → heldNumber (heldBy k rest) ≡ k
-    of-held zero = of-body (eqb (kindOf rest) 1) (eqb (kindOf rest) 2) (eqb (kindOf rest) 5) _ _ _ _ _ _
+    of-held zero = of-body (eqb (kindOf rest) 1) (eqb (kindOf rest) 2) _ _ _ _ _
     of-held (suc k) = refl
 
     of-front : (b : Bool) → eqb n 41 ≡ b → frontNumber (cond b cut (whole (sizeOf rest) (heldBy n rest))) ≡ n

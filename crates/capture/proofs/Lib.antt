@@ -3,3 +3,4 @@ pub mod Parts
 pub mod Limits
 pub mod InChunks
 pub mod Kept
+pub mod Steps

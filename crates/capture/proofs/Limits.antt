@@ -1,7 +1,7 @@
 -- A record that admits with another limit than the largest is of kind 5. Assumes nothing.
 use Prim.Native.Nat.{ℕ, zero, suc, _≤_}
 use mathlib.Core.Path.{_≡_, refl, sym, ap, _∙_}
-use mathlib.Core.Bool.{Bool, true, false, cond}
+use mathlib.Core.Bool.{Bool, true, false, not, cond, _||_}
 use mathlib.Core.List.{List}
 use native.Mathlib.Omega.{arith}
 use borrow.Author.Tests.{eqb-true}
@@ -10,9 +10,9 @@ use lib.ListN.{length, take, drop, length-take, take-append-drop}
 use Rattle.wire.specs.Numbers.{littleEndian}
 use Rattle.refusal.specs.Refusals.{firstOf}
 use Rattle.refusal.proofs.First.{clear}
-use Rattle.capture.specs.Records.{Held, arrival, admission, removal, end, cut, whole, lengthOf, kindOf, sizeOf, recordChecks, heldBy, entryOf}
+use Rattle.capture.specs.Records.{Held, arrival, admission, end, cut, whole, lengthOf, kindOf, sizeOf, unknownKind, recordChecks, heldBy, entryOf}
 use Rattle.capture.proofs.Fronts.{all-there}
-use Rattle.capture.proofs.Parts.{read-same, at-least-10}
+use Rattle.capture.proofs.Parts.{never, read-same, at-least-10}
 
 -- what a whole record holds, by its number
 of-entry : (rest : List ℕ) (size : ℕ) (held : Held) → entryOf rest ≡ whole size held → heldBy (firstOf (recordChecks rest)) rest ≡ held
@@ -35,21 +35,23 @@ kind-of-record rest size h l =
     sym (read-same 2 2 (take size rest) (drop size rest) (omega arith) littleEndian) ∙ ap (λ (s : List ℕ). kindOf s) (take-append-drop size rest)
 
 -- by kind
-of-body : (one two five : Bool) (L a b own c id limit : ℕ) → cond one (arrival L) (cond two (admission a 2_147_483_647) (cond five (admission b own) (removal c))) ≡ admission id limit
-    → (five ≡ true → ⊥) → limit ≡ 2_147_483_647
-of-body true two five L a b own c id limit e not-5 = let z : _≡_ {A = ℕ} 0 1 = cc in absurd (omega arith)
-of-body false true five L a b own c id limit e not-5 = cc
-of-body false false true L a b own c id limit e not-5 = absurd (not-5 refl)
-of-body false false false L a b own c id limit e not-5 = let z : _≡_ {A = ℕ} 0 1 = cc in absurd (omega arith)
+of-body : (one two five : Bool) (L a b own id limit : ℕ) → cond one (arrival L) (cond two (admission a 2_147_483_647) (admission b own)) ≡ admission id limit
+    → not (one || two || five) ≡ false → (five ≡ true → ⊥) → limit ≡ 2_147_483_647
+of-body true two five L a b own id limit e known not-5 = let z : _≡_ {A = ℕ} 0 1 = cc in absurd (omega arith)
+of-body false true five L a b own id limit e known not-5 = cc
+of-body false false true L a b own id limit e known not-5 = absurd (not-5 refl)
+of-body false false false L a b own id limit e known not-5 = never known
 
 pub largest-but-5 : (rest : List ℕ) (size id limit : ℕ) → entryOf rest ≡ whole size (admission id limit) → (kindOf (take size rest) ≡ 5 → ⊥) → limit ≡ 2_147_483_647
+unfolding unknownKind
 largest-but-5 rest size id limit e not-5 = go (firstOf (recordChecks rest)) refl (of-entry rest size (admission id limit) e)
   where
     go : (n : ℕ) → firstOf (recordChecks rest) ≡ n → heldBy n rest ≡ admission id limit → limit ≡ 2_147_483_647
     go (suc n) p h = let z : _≡_ {A = ℕ} 0 1 = cc in absurd (omega arith)
     go zero p h =
         let sound = clear (recordChecks rest) tt p in
-        let long = at-least-10 (lengthOf rest) (kindOf rest) (sound .1 .0) (sound .1 .1 .0) in
+        let known = sound .1 .1 .1 .0 in
+        let long = at-least-10 (lengthOf rest) (kindOf rest) (sound .1 .0) known in
         let there = all-there rest size (admission id limit) e in
         let own : kindOf (take size rest) ≡ kindOf rest = kind-of-record rest size (omega arith) (there .1) in
-        of-body (eqb (kindOf rest) 1) (eqb (kindOf rest) 2) (eqb (kindOf rest) 5) _ _ _ _ _ id limit h (λ five. not-5 (own ∙ eqb-true (kindOf rest) 5 five))
+        of-body (eqb (kindOf rest) 1) (eqb (kindOf rest) 2) (eqb (kindOf rest) 5) _ _ _ _ id limit h known (λ five. not-5 (own ∙ eqb-true (kindOf rest) 5 five))

@@ -9,13 +9,13 @@ use borrow.Author.Tests.{eqb-true, ltb-false}
 use lib.Dec.{T, eqb, ltb}
 use lib.ListN.{length, drop, length-append, length-drop}
 use lib.Seq.{take-append-le, drop-append-le}
-use Rattle.wire.specs.Numbers.{part, spelledOr0, number, littleEndian}
+use Rattle.wire.specs.Numbers.{part, spelledOr0, numberOr0, littleEndianOr0, number, littleEndian}
 use Rattle.wire.proofs.Numbers.{there}
-use Rattle.capture.specs.Records.{whole, lengthOf, kindOf, sizeOf, bodyOf, wrongFor, wrongLength, unknownKind, entryOf}
+use Rattle.capture.specs.Records.{arrival, admission, whole, lengthOf, kindOf, sizeOf, limitOf, bodyOf, wrongFor, wrongLength, retiredKind, unknownKind, entryOf}
 use Rattle.capture.specs.Parts.{ReadInParts}
-use Rattle.capture.proofs.Fronts.{wrong, unknown, known, all-there, sized}
+use Rattle.capture.proofs.Fronts.{wrong, retired, unknown, known, all-there, sized}
 
-never : {X : Type 0} → true ≡ false → X
+pub never : {X : Type 0} → true ≡ false → X
 never e = absurd (subst T e tt)
 
 -- ---- what is there is read the same
@@ -42,7 +42,7 @@ right-for n k = go (ltb n 2)
     go false p = p
 
 -- and no unknown kind: at least 10
-by-kind : (one two three five under-10 is-10 is-14 : Bool) → cond one under-10 (cond (two || three) (not is-10) (cond five (not is-14) false)) ≡ false → not (one || two || three || five) ≡ false
+by-kind : (one two three five under-10 is-10 is-14 : Bool) → cond one under-10 (cond (two || three) (not is-10) (cond five (not is-14) false)) ≡ false → not (one || two || five) ≡ false
     → (under-10 ≡ false) ⊎ ((is-10 ≡ true) ⊎ (is-14 ≡ true))
 by-kind true two three five true e f p q = never p
 by-kind true two three five false e f p q = inl refl
@@ -107,24 +107,36 @@ module _ (rest later : List ℕ) (some : length rest ≡ 0 → ⊥) (all : sizeO
   kind-same h = sym (read-same 2 2 rest later (omega arith) littleEndian)
 
   -- the limit is read where there is one
-  body-same : 10 ≤ n → (five : Bool) → eqb k 5 ≡ five → wrongLength n k ≡ false → bodyOf k both ≡ bodyOf k rest
-  body-same h true e w =
-      let whole : n ≡ 14 = is-14 n k e w in
-      rw (read-same 4 8 rest later (omega arith) littleEndian, read-same 4 8 rest later (omega arith) number, read-same 12 4 rest later (omega arith) littleEndian)
-  body-same h false e w = rw (e, read-same 4 8 rest later (omega arith) littleEndian, read-same 4 8 rest later (omega arith) number)
+  body-same : 10 ≤ n → wrongLength n k ≡ false → unknownKind k ≡ false → bodyOf k both ≡ bodyOf k rest
+  unfolding unknownKind
+  body-same h w known = go (eqb k 1) (eqb k 2) (eqb k 5) refl known
+    where
+      id-same : numberOr0 4 8 both ≡ numberOr0 4 8 rest
+      id-same = read-same 4 8 rest later (omega arith) number
 
-  by-checks : (w u : Bool) → wrongLength n k ≡ w → unknownKind k ≡ u → entryOf both ≡ entryOf rest
-  by-checks true u ew eu =
+      go : (one two five : Bool) → eqb k 5 ≡ five → not (one || two || five) ≡ false
+          → cond one (arrival (littleEndianOr0 4 8 both)) (cond two (admission (numberOr0 4 8 both) 2_147_483_647) (admission (numberOr0 4 8 both) (limitOf both)))
+          ≡ cond one (arrival (littleEndianOr0 4 8 rest)) (cond two (admission (numberOr0 4 8 rest) 2_147_483_647) (admission (numberOr0 4 8 rest) (limitOf rest)))
+      go true two five e q = rw (read-same 4 8 rest later (omega arith) littleEndian)
+      go false true five e q = rw id-same
+      go false false true e q = let whole : n ≡ 14 = is-14 n k e w in rw (id-same, read-same 12 4 rest later (omega arith) littleEndian)
+      go false false false e q = never q
+
+  by-checks : (w r u : Bool) → wrongLength n k ≡ w → retiredKind k ≡ r → unknownKind k ≡ u → entryOf both ≡ entryOf rest
+  by-checks true r u ew er eu =
       let same = wrong-same n k (kindOf both) (ltb n 2) refl (λ h. sym (kind-same h)) in
       sym (wrong both some-more length-same refl all-more (sym (same ∙ ew))) ∙ wrong rest some refl refl all (sym ew)
-  by-checks false true ew eu =
-      sym (unknown both some-more length-same (kind-same (at-least-2 n k (ltb n 2) refl ew)) all-more (sym ew) (sym eu))
-      ∙ unknown rest some refl refl all (sym ew) (sym eu)
-  by-checks false false ew eu =
-      sym (known both some-more length-same (kind-same (at-least-2 n k (ltb n 2) refl ew)) all-more (sym ew) (sym eu))
-      ∙ ap (whole (2 + n)) (body-same (at-least-10 n k ew eu) (eqb k 5) refl ew) ∙ known rest some refl refl all (sym ew) (sym eu)
+  by-checks false true u ew er eu =
+      sym (retired both some-more length-same (kind-same (at-least-2 n k (ltb n 2) refl ew)) all-more (sym ew) (sym er))
+      ∙ retired rest some refl refl all (sym ew) (sym er)
+  by-checks false false true ew er eu =
+      sym (unknown both some-more length-same (kind-same (at-least-2 n k (ltb n 2) refl ew)) all-more (sym ew) (sym er) (sym eu))
+      ∙ unknown rest some refl refl all (sym ew) (sym er) (sym eu)
+  by-checks false false false ew er eu =
+      sym (known both some-more length-same (kind-same (at-least-2 n k (ltb n 2) refl ew)) all-more (sym ew) (sym er) (sym eu))
+      ∙ ap (whole (2 + n)) (body-same (at-least-10 n k ew eu) ew eu) ∙ known rest some refl refl all (sym ew) (sym er) (sym eu)
 
 pub read-in-parts : ReadInParts
 read-in-parts rest later size held e =
     let p = sized rest size held e in
-    by-checks rest later (λ z. omega (arith, p .0, p .1)) (let l = all-there rest size held e in omega (arith, p .1)) _ _ refl refl ∙ e
+    by-checks rest later (λ z. omega (arith, p .0, p .1)) (let l = all-there rest size held e in omega (arith, p .1)) _ _ _ refl refl refl ∙ e

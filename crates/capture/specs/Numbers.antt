@@ -1,16 +1,15 @@
--- The number of what stands at the front (document 01, Numbers answered): 41 where the record is cut, and where it is damaged its own.
+-- The number of what stands at the front (document 01, Numbers answered): 41 where the record is cut, and where it is refused its own.
 use Prim.Native.Nat.{ℕ}
 use mathlib.Core.Path.{_≡_}
 use mathlib.Core.List.{List}
 use lib.ListN.{length}
 use Rattle.refusal.specs.Refusals.{firstOf}
-use Rattle.capture.specs.Records.{Held, damaged, arrival, admission, removal, Front, end, cut, whole, recordChecks, entryOf}
+use Rattle.capture.specs.Records.{Held, damaged, arrival, admission, Front, end, cut, whole, recordChecks, entryOf}
 
 abbrev pub heldNumber : Held → ℕ
 heldNumber (damaged n) = n
 heldNumber (arrival L) = 0
 heldNumber (admission id limit) = 0
-heldNumber (removal id) = 0
 
 abbrev pub frontNumber : Front → ℕ
 frontNumber end = 0

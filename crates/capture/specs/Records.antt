@@ -1,4 +1,4 @@
--- A capture's records (document 01, Capture and listing; request #107), over the bytes that remain of it.
+-- A capture's records (document 01, Capture and listing; requests #107 and #109), over the bytes that remain of it.
 use Prim.Native.Nat.{ℕ, _+_}
 use mathlib.Core.Bool.{Bool, false, cond, not, _||_}
 use mathlib.Core.List.{List, [], _∷_}
@@ -9,19 +9,18 @@ use Rattle.refusal.specs.Refusals.{numberOf, ifAccepted, Check, _answers_, firs
 use Rattle.capture.specs.declared.Entry.{Entry}
 use Rattle.capture.specs.declared.Entry.the-variants.{End, Cut, Whole}
 use Rattle.capture.specs.declared.Content.{Content}
-use Rattle.capture.specs.declared.Content.the-variants.{Refused, Frame, Admit, Remove}
+use Rattle.capture.specs.declared.Content.the-variants.{Refused, Frame, Admit}
 
 -- ---- What stands at the front
 
 -- what a whole record holds
 pub data Held : Type 0 where
-  -- damaged: refused, with document 01's number
+  -- damaged, or of a retired kind: refused, with this number
   damaged : ℕ → Held
   -- a frame with its arrival time L
   arrival : ℕ → Held
-  -- the id of a stream to admit, with its limit, and of one to remove
+  -- the id of a stream to admit, with its limit
   admission : ℕ → ℕ → Held
-  removal : ℕ → Held
 
 -- what stands at the front of the bytes that remain
 pub data Front : Type 0 where
@@ -37,7 +36,6 @@ abbrev pub heldOf : Content → Held
 heldOf (Refused r) = damaged (numberOf r)
 heldOf (Frame L) = arrival L
 heldOf (Admit id limit) = admission id limit
-heldOf (Remove id) = removal id
 
 abbrev pub frontOf : Entry → Front
 frontOf End = end
@@ -60,14 +58,13 @@ sizeOf rest = 2 + lengthOf rest
 abbrev pub limitOf : List ℕ → ℕ
 limitOf rest = littleEndianOr0 12 4 rest
 
--- kind 1: eight-byte little-endian L, then a frame; kind 2 admits and kind 3 removes: eight id bytes in wire order; kind 5 admits with a limit,
--- and kind 2 with 2,147,483,647
+-- kind 1: eight-byte little-endian L, then a frame; kind 2 admits: eight id bytes in wire order, with 2,147,483,647; kind 5 admits with a limit.
+-- This is asked where no number is answered, and then the kind is one of these
 abbrev pub bodyOf : ℕ → List ℕ → Held
 bodyOf kind rest =
     cond (eqb kind 1) (arrival (littleEndianOr0 4 8 rest))
     (cond (eqb kind 2) (admission (numberOr0 4 8 rest) 2_147_483_647)
-    (cond (eqb kind 5) (admission (numberOr0 4 8 rest) (limitOf rest))
-    (removal (numberOr0 4 8 rest))))
+    (admission (numberOr0 4 8 rest) (limitOf rest)))
 
 -- the frame in a record: what stands behind L, none where the record is shorter
 unfoldable pub frameIn : List ℕ → List ℕ
@@ -87,13 +84,19 @@ wrongFor kind n =
 unfoldable pub wrongLength : ℕ → ℕ → Bool
 wrongLength n kind = ltb n 2 || wrongFor kind n
 
-unfoldable pub unknownKind : ℕ → Bool
-unknownKind kind = not (eqb kind 1 || eqb kind 2 || eqb kind 3 || eqb kind 5)
+-- "Kind 3 is no longer obeyed" (request #109): it removed a stream. It is answered before it could be unknown
+unfoldable pub retiredKind : ℕ → Bool
+retiredKind kind = eqb kind 3
 
+unfoldable pub unknownKind : ℕ → Bool
+unknownKind kind = not (eqb kind 1 || eqb kind 2 || eqb kind 5)
+
+-- "44 for kind 3 of right length, after 42, before 43" (request #109)
 abbrev pub recordChecks : List ℕ → List Check
 recordChecks rest =
     ltb (length rest) (sizeOf rest) answers 41
     ∷ wrongLength (lengthOf rest) (kindOf rest) answers 42
+    ∷ retiredKind (kindOf rest) answers 44
     ∷ unknownKind (kindOf rest) answers 43
     ∷ []
 

@@ -27,6 +27,23 @@ module _ {O S : Type 0} (step : S → List ℕ → Held → O × S) where
   unfoldable pub walk : List ℕ → S → List O × S
   walk capture s = walkFrom (length capture) capture s
 
+-- ---- Its records, one after the other
+
+pub record CaptureRecord : Type 0 where
+  pub bytes : List ℕ
+  pub held : Held
+
+unfoldable pub recordsIn : List ℕ → List CaptureRecord
+recordsIn capture = walk {O = CaptureRecord} (λ (s : Unit {0}) bytes held. (record { bytes = bytes; held = held }, s)) capture tt .0
+
+-- a step for each of some records: the first has the state s, each later one that which the one before left
+unfoldable pub steps : {O S : Type 0} → (S → List ℕ → Held → O × S) → S → List CaptureRecord → List O × S
+steps step s [] = ([], s)
+steps step s (r ∷ rs) =
+    let a = step s (r .bytes) (r .held) in
+    let b = steps step (a .1) rs in
+    (a .0 ∷ b .0, b .1)
+
 -- ---- A part of a capture: the whole records at the front of a chunk, while `ready` says of what has been said so far that there is room for
 -- more. What is left of the chunk waits for the bytes that come later.
 

@@ -5,7 +5,7 @@ ghost use Prim.Native.Nat.{_≤_};
 ghost use lib.ListN.{length};
 ghost use denote.Ref.{ptr};
 ghost use Rattle.wire.specs.Parts.{StandsIn};
-ghost use Rattle.capture.specs.Records.{heldOf, frontOf, entryOf, wrongLength, unknownKind, limitOf, bodyOf, frameIn};
+ghost use Rattle.capture.specs.Records.{heldOf, frontOf, entryOf, wrongLength, retiredKind, unknownKind, limitOf, bodyOf, frameIn};
 ghost use Rattle.capture.specs.Numbers.{RecordNumbers};
 ghost use Rattle.capture.specs.Sizes.{RecordSizes};
 ghost use Rattle.capture.specs.Parts.{ReadInParts};
@@ -22,12 +22,11 @@ pub enum Entry {
 }
 
 pub enum Content {
-    // 42 or 43: skipped whole.
+    // 42 to 44: skipped whole.
     Refused(Refusal),
     // The frame's bytes are what `frame_in` gives of the record.
     Frame { arrival_time: u64 },
     Admit { id: u64, limit: u32 },
-    Remove { id: u64 },
 }
 
 // The limit with which kind 2 admits a stream: the largest (request #107).
@@ -52,10 +51,17 @@ fn wrong_length(length: u16, kind: u16) -> bool
     false
 }
 
+// Kind 3 removed a stream: "no longer obeyed" (request #109).
+fn retired_kind(kind: u16) -> bool
+    ensures { λ r. ⌜ r ≡ retiredKind kind ⌝ }
+{
+    kind == 3
+}
+
 fn unknown_kind(kind: u16) -> bool
     ensures { λ r. ⌜ r ≡ unknownKind kind ⌝ }
 {
-    !((kind == 1) | (kind == 2) | (kind == 3) | (kind == 5))
+    !((kind == 1) | (kind == 2) | (kind == 5))
 }
 
 // The limit in a record of kind 5: the four bytes behind the id, lowest first.
@@ -81,11 +87,9 @@ fn body(capture: &[u8], kind: u16) -> Content
             limit: LARGEST_LIMIT,
         };
     }
-    if kind == 5 {
-        let limit = limit_in(capture);
-        return Content::Admit { id, limit };
-    }
-    Content::Remove { id }
+    // Kind 5.
+    let limit = limit_in(capture);
+    Content::Admit { id, limit }
 }
 
 pub fn next_record(capture: &[u8]) -> Entry
@@ -103,6 +107,10 @@ pub fn next_record(capture: &[u8]) -> Entry
     }
     if wrong_length(length, kind) {
         let content = Content::Refused(Refusal::RecordLength);
+        return Entry::Whole { size, content };
+    }
+    if retired_kind(kind) {
+        let content = Content::Refused(Refusal::RecordRetired);
         return Entry::Whole { size, content };
     }
     if unknown_kind(kind) {

@@ -11,7 +11,7 @@ use Rattle.frame.specs.Layout.{hasCip}
 use Rattle.stream.specs.declared.Flags.{Flags}
 use Rattle.text.specs.Text.{ascii, decimal, signed}
 use Rattle.text.proofs.Decimals.{decimal-length}
-use Rattle.lines.specs.Lines.{endLine, ending, nextNumber, refused, frame, flagWord, blockWord, flagsText, kindWord, timingText, lineText}
+use Rattle.lines.specs.Lines.{endLine, ending, nextNumber, admitted, refused, frame, flagWord, blockWord, flagsText, kindWord, timingText, lineText}
 use Rattle.lines.specs.Placing.{lineRoom}
 
 flag-length : (raised : Bool) (word : List ℕ) → 2 ≤ length word → length (flagWord raised word) ≤ length word
@@ -46,8 +46,9 @@ timing-length t h = let k = kind-length (t .kind) in simp length-append (omega a
 
 -- the line of record number n, which has 64 bits
 module _ (n : ℕ) (wide : n < 2 ^ 64) where
-  pub numbered-length : (rest : List ℕ) → length (decimal n ++ rest) ≤ 20 + length rest
-  numbered-length rest = let l = decimal-length n wide in simp length-append (omega arith)
+  pub admitted-length : length (lineText n admitted) ≤ 30
+  unfolding lineText
+  admitted-length = let l = decimal-length n wide in simp length-append (omega arith)
 
   pub frame-length : (tag : ℕ) (f : Flags) (t : Timing) → length (timingText t) ≤ 43 → length (lineText n (frame tag f t)) ≤ 110
   unfolding lineText

@@ -10,7 +10,7 @@ use Rattle.presentation.specs.declared.Kind.the-variants.{None, Cut, Outside, L
 use Rattle.presentation.specs.declared.Timing.{Timing}
 use Rattle.stream.specs.declared.Flags.{Flags}
 use Rattle.lines.specs.declared.Outcome.{Outcome}
-use Rattle.lines.specs.declared.Outcome.the-variants.{Admitted, Removed, Refused, Frame}
+use Rattle.lines.specs.declared.Outcome.the-variants.{Admitted, Refused, Frame}
 use Rattle.text.specs.Text.{ascii, decimal, signed}
 
 -- ---- The first line and the last
@@ -26,14 +26,12 @@ endLine records = ascii "end records=" ++ decimal records ++ ascii "\n"
 -- what it says of the record; a refusal has document 01's number
 pub data Line : Type 0 where
   admitted : Line
-  removed : Line
   refused : ℕ → Line
   -- an accepted frame: its tag, flags and time
   frame : ℕ → Flags → Timing → Line
 
 abbrev pub lineOf : Outcome → Line
 lineOf Admitted = admitted
-lineOf Removed = removed
 lineOf (Refused r) = refused (numberOf r)
 lineOf (Frame tag flags timing) = frame tag flags timing
 
@@ -70,7 +68,6 @@ timingText t = ascii " time=" ++ kindWord (t .kind) ++ ascii " offset=" ++ signe
 -- the line of record number n
 unfoldable pub lineText : ℕ → Line → List ℕ
 lineText n admitted = decimal n ++ ascii " admitted\n"
-lineText n removed = decimal n ++ ascii " removed\n"
 lineText n (refused number) = decimal n ++ ascii " refused " ++ decimal number ++ ascii "\n"
 lineText n (frame tag flags timing) = decimal n ++ flagsText tag flags ++ timingText timing
 

@@ -14,7 +14,6 @@ ghost use Rattle.lines.specs.Placing.{roomy, placedLine, lineAt};
 // What became of a record of a capture.
 pub enum Outcome {
     Admitted,
-    Removed,
     Refused(Refusal),
     // An accepted frame.
     Frame {

@@ -11,9 +11,9 @@ ghost use mathlib.Core.List.{_++_};
 ghost use lib.ListN.{length};
 ghost use Rattle.frame.specs.Layout.{hasCip};
 ghost use Rattle.refusal.specs.Refusals.{numberOf};
-ghost use Rattle.text.specs.Text.{ascii, decimal};
+ghost use Rattle.text.specs.Text.{ascii};
 ghost use Rattle.text.specs.InTurn.{PutInTurn};
-ghost use Rattle.lines.specs.Lines.{endLine, ending, refused, frame, flagWord, blockWord, flagsText, kindWord, timingText, lineOf, lineText};
+ghost use Rattle.lines.specs.Lines.{endLine, ending, admitted, refused, frame, flagWord, blockWord, flagsText, kindWord, timingText, lineOf, lineText};
 ghost use Rattle.lines.specs.Placing.{lineRoom};
 
 // A label, and the word where the flag is raised, else `ok`.
@@ -101,12 +101,12 @@ fn put_refused(out: &mut [u8], at: usize, n: u64, refusal: Refusal) -> usize
     text::put(out, c, b"\n")
 }
 
-// A record's number and what comes after it.
-fn put_numbered(out: &mut [u8], at: usize, n: u64, rest: &[u8]) -> usize
-    ensures { λ r. ⌜ PutInTurn (now (out .entry)) at (decimal n ++ now (rest .entry)) (now (out .exit)) r ⌝ }
+fn put_admitted(out: &mut [u8], at: usize, n: u64) -> usize
+    ensures { λ r. ⌜ PutInTurn (now (out .entry)) at (lineText n admitted) (now (out .exit)) r ⌝ }
+    ensures { λ _. ⌜ length (lineText n admitted) ≤ 30 ⌝ }
 {
     let a = text::put_decimal(out, at, n);
-    text::put(out, a, rest)
+    text::put(out, a, b" admitted\n")
 }
 
 pub(crate) fn put_line(out: &mut [u8], at: usize, n: u64, outcome: Outcome) -> usize
@@ -114,8 +114,7 @@ pub(crate) fn put_line(out: &mut [u8], at: usize, n: u64, outcome: Outcome) -> u
     ensures { λ _. ⌜ length (lineText n (lineOf outcome)) ≤ lineRoom ⌝ }
 {
     match outcome {
-        Outcome::Admitted => put_numbered(out, at, n, b" admitted\n"),
-        Outcome::Removed => put_numbered(out, at, n, b" removed\n"),
+        Outcome::Admitted => put_admitted(out, at, n),
         Outcome::Refused(refusal) => put_refused(out, at, n, refusal),
         Outcome::Frame { tag, flags, timing } => put_frame(out, at, n, tag, flags, timing),
     }

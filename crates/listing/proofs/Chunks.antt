@@ -14,10 +14,10 @@ use Rattle.stream.specs.declared.Receipt.the-variants.{Refused}
 use Rattle.stream.specs.Answers.{refusedWith, receiptAnswer}
 use Rattle.capture.specs.Records.{end, entryOf}
 use Rattle.lines.specs.declared.Placed.the-variants.{UpTo, NoRoom}
-use Rattle.lines.specs.Lines.{Line, refused, nextNumber}
+use Rattle.lines.specs.Lines.{refused, nextNumber}
 use Rattle.lines.specs.Placing.{roomy, LineAt, lineAt, placedLine}
 use Rattle.listing.specs.declared.chunk.Cursor.{Cursor}
-use Rattle.listing.specs.Listing.{changeLine, frameLine}
+use Rattle.listing.specs.Listing.{admissionLine, frameLine}
 use Rattle.listing.specs.Private.{halted, passed, putWhole}
 
 -- ---- past the end of a chunk nothing stands
@@ -38,8 +38,8 @@ unfolding entryOf
 end-past chunk at h = rw (drop-of-length-le chunk {i = at} h)
 
 -- ---- a refusal has a number that is not 0
-pub change-refused : (r : Refusal) (line : Line) → refused (numberOf r) ≡ changeLine (numberOf r) line
-change-refused r line = rw (positive r .1)
+pub admission-refused : (r : Refusal) → refused (numberOf r) ≡ admissionLine (numberOf r)
+admission-refused r = rw (positive r .1)
 
 pub receipt-refused : (r : Refusal) → refused (numberOf r) ≡ frameLine (receiptAnswer (Refused r) [])
 unfolding refusedWith

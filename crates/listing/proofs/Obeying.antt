@@ -3,16 +3,16 @@ use Prim.Native.Nat.{ℕ}
 use mathlib.Core.Path.{_≡_, refl, ap, _∙_}
 use mathlib.Core.List.{List, []}
 use lib.ListN.{length}
-use Rattle.capture.specs.Records.{Held, damaged, arrival, admission, removal, frameIn}
+use Rattle.capture.specs.Records.{Held, damaged, arrival, admission, frameIn}
 use Rattle.stream.specs.declared.Receipt.{Receipt}
 use Rattle.stream.specs.declared.Receipt.the-variants as receipt
 use Rattle.stream.specs.Answers.{receiptAnswer}
 use Rattle.table.specs.declared.Change.{Change}
-use Rattle.table.specs.Table.{Table, changeNumber, admit, remove, receive}
-use Rattle.table.proofs.Lengths.{length-admit, length-remove, length-receive}
+use Rattle.table.specs.Table.{Table, changeNumber, admit, receive}
+use Rattle.table.proofs.Lengths.{length-admit, length-receive}
 use Rattle.lines.specs.declared.Outcome.{Outcome}
-use Rattle.lines.specs.Lines.{admitted, removed, lineOf}
-use Rattle.listing.specs.Listing.{changeLine, frameLine, step}
+use Rattle.lines.specs.Lines.{lineOf}
+use Rattle.listing.specs.Listing.{admissionLine, frameLine, step}
 use Rattle.listing.specs.Private.{Obeyed}
 
 -- ---- the table stays as long as it was
@@ -20,7 +20,6 @@ pub length-after : (t : Table) (bytes : List ℕ) (h : Held) → length (step t 
 length-after t bytes (damaged number) = refl
 length-after t bytes (arrival L) = length-receive t (frameIn bytes) L
 length-after t bytes (admission id limit) = length-admit limit t id
-length-after t bytes (removal id) = length-remove t id
 
 -- ---- the line, and the table afterwards
 -- a line says nothing of the payload
@@ -39,8 +38,5 @@ module _ (bytes : List ℕ) (t : Table) (o : Outcome) where
         table = ap (λ (f : List ℕ). receive t f L .1) is;
       }
 
-  pub obeys-admission : (id limit : ℕ) (c : Change) → changeNumber c ≡ admit limit t id .0 → lineOf o ≡ changeLine (changeNumber c) admitted → Obeyed t bytes (admission id limit) o (admit limit t id .1)
-  obeys-admission id limit c said line = record { line = line ∙ ap (λ (n : ℕ). changeLine n admitted) said; table = refl }
-
-  pub obeys-removal : (id : ℕ) (c : Change) → changeNumber c ≡ remove t id .0 → lineOf o ≡ changeLine (changeNumber c) removed → Obeyed t bytes (removal id) o (remove t id .1)
-  obeys-removal id c said line = record { line = line ∙ ap (λ (n : ℕ). changeLine n removed) said; table = refl }
+  pub obeys-admission : (id limit : ℕ) (c : Change) → changeNumber c ≡ admit limit t id .0 → lineOf o ≡ admissionLine (changeNumber c) → Obeyed t bytes (admission id limit) o (admit limit t id .1)
+  obeys-admission id limit c said line = record { line = line ∙ ap admissionLine said; table = refl }

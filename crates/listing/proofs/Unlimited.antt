@@ -1,14 +1,15 @@
--- A capture without kind 5 lists as it did before there were limits: no record in use has another limit than the largest. Assumes nothing.
+-- A capture without kind 5 lists as it would without limits: no record in use has another limit than the largest. Assumes nothing.
 use Prim.Native.Nat.{ℕ, zero, suc}
 use mathlib.Core.Path.{_≡_, refl, sym, ap, _∙_, subst}
 use mathlib.Core.Bool.{Bool, true, false, cond, _||_, _&&_, false≢true}
 use mathlib.Core.List.{List, [], _∷_, _++_}
 use lib.Dec.{eqb}
 use lib.ListN.{length, take, drop, set, replicate}
-use Rattle.capture.specs.Records.{Held, damaged, arrival, admission, removal, Front, end, cut, whole, kindOf, frameIn, entryOf}
-use Rattle.capture.specs.Walk.{walkBy, walkFrom, walk}
+use Rattle.capture.specs.Records.{Held, damaged, arrival, admission, Front, end, cut, whole, frameIn, entryOf}
+use Rattle.capture.specs.Walk.{walkBy, walkFrom, walk, recordsIn}
 use Rattle.capture.proofs.Limits.{largest-but-5}
 use Rattle.capture.proofs.Kept.{kept}
+use Rattle.capture.proofs.Steps.{recordStep}
 use Rattle.refusal.specs.Refusals.{ifAccepted, firstOf}
 use Rattle.presentation.specs.declared.Kind.{Kind}
 use Rattle.presentation.specs.declared.Kind.the-variants.{None, Cut, Outside, Late, Ahead, Unclear, Far}
@@ -22,11 +23,11 @@ use Rattle.stream.specs.Records.{unused, admittedWithin}
 use Rattle.stream.specs.Step.{stepped}
 use Rattle.stream.specs.Answers.{Answer, refusedWith, stepOf, answerOf, after, idOf}
 use Rattle.stream.proofs.Laws.{admitted-limit, after-limit}
-use Rattle.table.specs.Table.{Table, holds, isUnused, any, place, at, admitChecks, removeChecks, admit, remove, numberWith, receive}
+use Rattle.table.specs.Table.{Table, holds, isUnused, any, place, at, admitChecks, admit, numberWith, receive}
 use Rattle.table.proofs.Receiving.{number-any}
-use Rattle.lines.specs.Lines.{Line, admitted, removed, refused, frame}
-use Rattle.listing.specs.Listing.{Said, frameLine, frameStream, step, visit}
-use Rattle.listing.specs.Unlimited.{unlimited, unlimitedStep, kindsIn, NoneIs5, isFar, NoneIsFar, UnlimitedWithout5}
+use Rattle.lines.specs.Lines.{Line, admitted, refused, frame}
+use Rattle.listing.specs.Listing.{Said, saidOf, step, visit}
+use Rattle.listing.specs.Unlimited.{unlimited, unlimitedStep, NoneIs5, isFar, NoneIsFar, UnlimitedWithout5}
 
 -- ---- tables without limits
 
@@ -62,10 +63,10 @@ free-at (r ∷ t) id f a = go (free-at t id (f .1)) (r .«in_use») (eqb (r .id)
     go later true false u a = later a
     go later false same u a = later a
 
--- an admission or a removal, by its number
-changed : (t : Table) (n i : ℕ) (r : Record) → Free t → FreeRecord r → Free (ifAccepted n (set t i r) t)
-changed t zero i r f g = free-set t i r f g
-changed t (suc n) i r f g = f
+-- an admission, by its number
+admitted-free : (t : Table) (n i : ℕ) (r : Record) → Free t → FreeRecord r → Free (ifAccepted n (set t i r) t)
+admitted-free t zero i r f g = free-set t i r f g
+admitted-free t (suc n) i r f g = f
 
 -- ---- one record
 
@@ -88,10 +89,7 @@ same-arrival t bytes L f = record { said = λ i. (said (numberWith t frame) refl
     received : ℕ → Answer × Table
     received n = (ifAccepted n (answerOf (at t home) frame L) (refusedWith n), ifAccepted n (set t home (after (at t home) frame L)) t)
 
-    line : Answer → Said
-    line a = record { stream = frameStream a; line = frameLine a }
-
-    said : (n : ℕ) → numberWith t frame ≡ n → line (received n .0) ≡ line (unlimited L (received n .0))
+    said : (n : ℕ) → numberWith t frame ≡ n → saidOf (received n .0) ≡ saidOf (unlimited L (received n .0))
     said (suc n) e = refl
     said zero e = rw (free-at t (idOf frame) f (number-any t frame e))
 
@@ -100,28 +98,24 @@ same-arrival t bytes L f = record { said = λ i. (said (numberWith t frame) refl
     free-after zero e = free-set t home (after (at t home) frame L) f (λ u. after-limit (at t home) frame L ∙ free-at t (idOf frame) f (number-any t frame e))
 
 same : (t : Table) (bytes : List ℕ) (held : Held) → Free t → ((id limit : ℕ) → held ≡ admission id limit → limit ≡ largestLimit) → Same t bytes held
-unfolding admit remove
+unfolding admit
 same t bytes (damaged n) f l = record { said = refl; free = f }
 same t bytes (arrival L) f l = same-arrival t bytes L f
 same t bytes (admission id limit) f l =
     record {
       said = ap (λ (n : ℕ). step t bytes (admission id n)) (l id limit refl);
-      free = changed t (firstOf (admitChecks limit t id)) (place isUnused t) (admittedWithin id limit) f (λ u. admitted-limit id limit ∙ l id limit refl);
+      free = admitted-free t (firstOf (admitChecks limit t id)) (place isUnused t) (admittedWithin id limit) f (λ u. admitted-limit id limit ∙ l id limit refl);
     }
-same t bytes (removal id) f l = record { said = refl; free = changed t (firstOf (removeChecks t id)) (place (holds id) t) unused f free-unused }
 
 -- ---- all of them
 
-abbrev kindStep : Unit {0} → List ℕ → Held → ℕ × Unit {0}
-kindStep s bytes held = (kindOf bytes, s)
-
-same-walk : (k : ℕ) (rest : List ℕ) (t : Table) → Free t → NoneIs5 (walkFrom kindStep k rest tt .0) → walkFrom step k rest t ≡ walkFrom unlimitedStep k rest t
+same-walk : (k : ℕ) (rest : List ℕ) (t : Table) → Free t → NoneIs5 (walkFrom recordStep k rest tt .0) → walkFrom step k rest t ≡ walkFrom unlimitedStep k rest t
 unfolding walkFrom
 same-walk zero rest t f none = refl
 same-walk (suc k) rest t f none = by-front (same-walk k) (entryOf rest) refl none
   where
-    by-front : ((rest : List ℕ) (t : Table) → Free t → NoneIs5 (walkFrom kindStep k rest tt .0) → walkFrom step k rest t ≡ walkFrom unlimitedStep k rest t)
-        → (front : Front) → entryOf rest ≡ front → NoneIs5 (walkBy kindStep (walkFrom kindStep k) rest tt front .0)
+    by-front : ((rest : List ℕ) (t : Table) → Free t → NoneIs5 (walkFrom recordStep k rest tt .0) → walkFrom step k rest t ≡ walkFrom unlimitedStep k rest t)
+        → (front : Front) → entryOf rest ≡ front → NoneIs5 (walkBy recordStep (walkFrom recordStep k) rest tt front .0)
         → walkBy step (walkFrom step k) rest t front ≡ walkBy unlimitedStep (walkFrom unlimitedStep k) rest t front
     by-front onward end e none = refl
     by-front onward cut e none = refl
@@ -131,8 +125,8 @@ same-walk (suc k) rest t f none = by-front (same-walk k) (entryOf rest) refl non
         ap (λ (w : List Said × Table). (step t (take size rest) held .0 ∷ w .0, w .1)) more
         ∙ ap (λ (a : Said × Table). let b = walkFrom unlimitedStep k (drop size rest) (a .1) in (a .0 ∷ b .0, b .1)) (one .said)
 
-same-visit : (capture : List ℕ) → NoneIs5 (kindsIn capture) → visit capture ≡ walk unlimitedStep capture (replicate 64 unused)
-unfolding visit walk
+same-visit : (capture : List ℕ) → NoneIs5 (recordsIn capture) → visit capture ≡ walk unlimitedStep capture (replicate 64 unused)
+unfolding visit walk recordsIn
 same-visit capture none = same-walk (length capture) capture (replicate 64 unused) (free-start 64) none
 
 -- ---- no line shows a frame as far
@@ -164,7 +158,6 @@ line-not-far t bytes (arrival L) =
     let a = receive t (frameIn bytes) L .0 in
     by-number (a .number) (frame (a .fields .header .stream .tag) (a .flags) (presentation L (a .fields) (a .payload))) (not-far L (stampOf (a .fields) (a .payload)))
 line-not-far t bytes (admission id limit) = by-number (admit largestLimit t id .0) admitted refl
-line-not-far t bytes (removal id) = by-number (remove t id .0) removed refl
 
 none-more : (xs : List Said) (x : Said) → NoneIsFar xs → isFar (x .line) ≡ false → NoneIsFar (xs ++ (x ∷ []))
 none-more [] x h e = (e, tt)

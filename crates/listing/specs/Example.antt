@@ -1,4 +1,5 @@
--- Worked listings. Document 01's: admit 1; a frame of stream 1 with L 1000, T 3000; a frame of stream 2; remove 1.
+-- Worked listings. Document 01's: admit 1; a frame of stream 1 with L 1000, T 3000; a frame of stream 2; remove 1, which is no longer obeyed
+-- (request #109).
 use Prim.Native.Nat.{ℕ, _+_}
 use mathlib.Core.Path.{_≡_}
 use mathlib.Core.List.{List, [], _∷_, _++_, map, reverse}
@@ -46,7 +47,7 @@ exampleListing =
     ++ ascii "1 admitted\n"
     ++ ascii "2 frame seq=ok dbc=ok fmt=ok mr=ok time=ahead offset=2000\n"
     ++ ascii "3 refused 15\n"
-    ++ ascii "4 removed\n"
+    ++ ascii "4 refused 44\n"
     ++ ascii "end records=4\n"
 
 -- stream 1 is admitted with the limit 1,999, and has that frame; stream 2 is to be admitted with one that is too large (request #107)
@@ -90,13 +91,46 @@ mixedListing =
     ++ ascii "8 refused 12\n"
     ++ ascii "end records=8\n"
 
+-- stream 1 is to be removed before it is admitted and between its frames, and stream 3, which isn't admitted, is to be removed: none of it is
+-- obeyed, so stream 1 keeps its place, its frames are judged on, and it can't be admitted again (request #109)
+unfoldable pub retiredCapture : List ℕ
+retiredCapture =
+    recordBytes 3 (bytes 8 1)
+    ++ recordBytes 2 (bytes 8 1)
+    ++ recordBytes 1 (reverse (bytes 8 1000) ++ frameWith 0x81 4 1 3000 0x000600079002FFFF)
+    ++ recordBytes 3 (bytes 8 1)
+    ++ recordBytes 2 (bytes 8 2)
+    ++ recordBytes 1 (reverse (bytes 8 1000) ++ frameWith 0x81 5 1 3000 0x000600079002FFFF)
+    ++ recordBytes 3 (bytes 8 1)
+    ++ recordBytes 3 (bytes 8 3)
+    ++ recordBytes 3 (bytes 9 1)
+    ++ recordBytes 2 (bytes 8 1)
+    ++ recordBytes 1 (reverse (bytes 8 1000) ++ frameWith 0x81 9 1 3000 0x000600079002FFFF)
+
+unfoldable pub retiredListing : List ℕ
+retiredListing =
+    ascii "avtp listing 1\n"
+    ++ ascii "1 refused 44\n"
+    ++ ascii "2 admitted\n"
+    ++ ascii "3 frame seq=ok dbc=ok fmt=ok mr=ok time=ahead offset=2000\n"
+    ++ ascii "4 refused 44\n"
+    ++ ascii "5 admitted\n"
+    ++ ascii "6 frame seq=ok dbc=ok fmt=ok mr=ok time=ahead offset=2000\n"
+    ++ ascii "7 refused 44\n"
+    ++ ascii "8 refused 44\n"
+    ++ ascii "9 refused 42\n"
+    ++ ascii "10 refused 21\n"
+    ++ ascii "11 frame seq=break dbc=ok fmt=ok mr=ok time=ahead offset=2000\n"
+    ++ ascii "end records=11\n"
+
 pub record WorkedExample : Type 0 where
   pub whole : listing exampleCapture ≡ exampleListing
   -- the stream that each record is about
-  pub streams : map (λ (x : Said). x .stream) (visit exampleCapture .0) ≡ some 1 ∷ some 1 ∷ none ∷ some 1 ∷ []
+  pub streams : map (λ (x : Said). x .stream) (visit exampleCapture .0) ≡ some 1 ∷ some 1 ∷ none ∷ none ∷ []
   -- an empty capture lists the first and last line
   pub empty : listing [] ≡ ascii "avtp listing 1\nend records=0\n"
   pub limits : listing limitCapture ≡ limitListing
   pub mixed : listing mixedCapture ≡ mixedListing
+  pub retired : listing retiredCapture ≡ retiredListing
   -- a cut record is listed and counted too
   pub cut : listing (take 15 exampleCapture) ≡ ascii "avtp listing 1\n1 admitted\n2 refused 41\nend records=2\n"

@@ -6,23 +6,23 @@ use mathlib.Core.List.{List, [], _∷_, _++_}
 use mathlib.Core.Option.{Option, none, some}
 use lib.ListN.{length, replicate}
 use Rattle.refusal.specs.Refusals.{ifAccepted}
-use Rattle.capture.specs.Records.{Held, damaged, arrival, admission, removal, frameIn}
+use Rattle.capture.specs.Records.{Held, damaged, arrival, admission, frameIn}
 use Rattle.capture.specs.Walk.{walk}
 use Rattle.stream.specs.Records.{unused}
 use Rattle.stream.specs.Answers.{Answer}
-use Rattle.table.specs.Table.{Table, admit, remove, receive}
-use Rattle.lines.specs.Lines.{startLine, endLine, Line, admitted, removed, refused, frame, nextNumber, lineText}
+use Rattle.table.specs.Table.{Table, admit, receive}
+use Rattle.lines.specs.Lines.{startLine, endLine, Line, admitted, refused, frame, nextNumber, lineText}
 
 -- ---- One record
 
--- what is said of a record: its line, and the stream that it is about, none where a frame is refused or the record is damaged
+-- what is said of a record: its line, and the stream that it is about, none where a frame or the record itself is refused
 pub record Said : Type 0 where
   pub stream : Option ℕ
   pub line : Line
 
--- admission and removal by the number answered
-abbrev pub changeLine : ℕ → Line → Line
-changeLine number line = ifAccepted number line (refused number)
+-- an admission by the number answered
+abbrev pub admissionLine : ℕ → Line
+admissionLine number = ifAccepted number admitted (refused number)
 
 -- a received frame by its answer
 abbrev pub frameLine : Answer → Line
@@ -31,15 +31,16 @@ frameLine a = ifAccepted (a .number) (frame (a .fields .header .stream .tag) (a 
 abbrev pub frameStream : Answer → Option ℕ
 frameStream a = ifAccepted (a .number) (some (a .fields .header .stream .id)) none
 
+abbrev pub saidOf : Answer → Said
+saidOf a = record { stream = frameStream a; line = frameLine a }
+
 -- what is said of a record with these bytes, by what it holds, and the table afterwards
 abbrev pub step : Table → List ℕ → Held → Said × Table
 step t bytes (damaged number) = (record { stream = none; line = refused number }, t)
 step t bytes (arrival L) =
     let received = receive t (frameIn bytes) L in
-    let a = received .0 in
-    (record { stream = frameStream a; line = frameLine a }, received .1)
-step t bytes (admission id limit) = (record { stream = some id; line = changeLine (admit limit t id .0) admitted }, admit limit t id .1)
-step t bytes (removal id) = (record { stream = some id; line = changeLine (remove t id .0) removed }, remove t id .1)
+    (saidOf (received .0), received .1)
+step t bytes (admission id limit) = (record { stream = some id; line = admissionLine (admit limit t id .0) }, admit limit t id .1)
 
 -- ---- All of them
 

@@ -17,9 +17,9 @@ ghost use Rattle.wire.specs.Numbers.{part};
 ghost use Rattle.capture.specs.Records.{heldOf, frontOf, end, entryOf};
 ghost use Rattle.stream.specs.Answers.{receiptAnswer};
 ghost use Rattle.table.specs.Table.{changeNumber};
-ghost use Rattle.lines.specs.Lines.{admitted, removed, lineOf, nextNumber, lineText};
+ghost use Rattle.lines.specs.Lines.{lineOf, nextNumber, lineText};
 ghost use Rattle.lines.specs.Placing.{roomy, placedLine, lineAt};
-ghost use Rattle.listing.specs.Listing.{changeLine, frameLine, ifShown};
+ghost use Rattle.listing.specs.Listing.{admissionLine, frameLine, ifShown};
 ghost use Rattle.listing.specs.Private.{sizeAhead, heldAhead, Obeyed, halted, putWhole, putNext, Becomes};
 ghost use Rattle.listing.specs.Chunks.{ChunkListed};
 
@@ -105,19 +105,10 @@ pub(crate) fn outcome_of_receipt(receipt: Receipt) -> Outcome
 }
 
 pub(crate) fn outcome_of_admission(change: Change) -> Outcome
-    ensures { λ r. ⌜ lineOf r ≡ changeLine (changeNumber change) admitted ⌝ }
+    ensures { λ r. ⌜ lineOf r ≡ admissionLine (changeNumber change) ⌝ }
 {
     match change {
         Change::Made => Outcome::Admitted,
-        Change::Refused(refusal) => Outcome::Refused(refusal),
-    }
-}
-
-pub(crate) fn outcome_of_removal(change: Change) -> Outcome
-    ensures { λ r. ⌜ lineOf r ≡ changeLine (changeNumber change) removed ⌝ }
-{
-    match change {
-        Change::Made => Outcome::Removed,
         Change::Refused(refusal) => Outcome::Refused(refusal),
     }
 }
@@ -198,11 +189,6 @@ pub(crate) fn obey(table: &mut [Record], record: &[u8], content: Content) -> Out
             let change = table::admit(table, id, limit);
             let admitted = outcome_of_admission(change);
             admitted
-        }
-        Content::Remove { id } => {
-            let change = table::remove(table, id);
-            let removed = outcome_of_removal(change);
-            removed
         }
     }
 }

@@ -6,7 +6,7 @@ ghost use Rattle.listing.specs.InChunks.{ListedInChunks};
 ghost use Rattle.listing.specs.Example.{WorkedExample};
 ghost use Rattle.listing.specs.Unlimited.{UnlimitedWithout5};
 
-// The rules list document 01's capture as it does, and worked ones of requests #107 and #108.
+// The rules list document 01's capture as it does, but for the removal (request #109), and worked ones of requests #107 to #109.
 fn worked_example()
     ensures { λ _. ⌜ WorkedExample ⌝ }
 {}
@@ -21,7 +21,7 @@ fn nothing_shown()
     ensures { λ _. ⌜ NothingShown ⌝ }
 {}
 
-// A capture without a record of kind 5 lists as it did before there were limits.
+// A capture without a record of kind 5 lists as it would without limits.
 fn unlimited_without_5()
     ensures { λ _. ⌜ UnlimitedWithout5 ⌝ }
 {}

@@ -33,10 +33,11 @@ pub enum Refusal {
     WritePartialBlock,
     WritePayloadTooLong,
     WriteOutputTooShort,
-    // Captures: 41 to 43.
+    // Captures: 41 to 43, and 44 (request #109), which is asked between 42 and 43.
     RecordCut,
     RecordLength,
     RecordKind,
+    RecordRetired,
     // Cycle times (request #101): 61 to 63.
     CycleTooLarge,
     OffsetInCycleTooLarge,
@@ -82,6 +83,7 @@ pub fn number(refusal: Refusal) -> u8
         Refusal::RecordCut => 41,
         Refusal::RecordLength => 42,
         Refusal::RecordKind => 43,
+        Refusal::RecordRetired => 44,
         Refusal::CycleTooLarge => 61,
         Refusal::OffsetInCycleTooLarge => 62,
         Refusal::CycleSecondsTooLarge => 63,

@@ -8,21 +8,21 @@ use mathlib.Core.Option.{some}
 use native.Mathlib.Omega.{arith}
 use lib.Dec.{eqb}
 use lib.ListN.{set, getElem?, replicate}
-use borrow.Author.Tests.{eqb-true, eqb-false, eq-eqb, ne-eqb, not-false}
+use borrow.Author.Tests.{eqb-true, eqb-false, eq-eqb, ne-eqb}
 use Rattle.refusal.specs.Refusals.{ifAccepted, firstOf}
 use Rattle.refusal.proofs.First.{clear}
 use Rattle.stream.specs.declared.Record.{Record}
 use Rattle.stream.specs.Records.{unused, admittedWithin}
 use Rattle.stream.specs.Answers.{Answer, answerOf, refusedWith, after, idOf}
 use Rattle.stream.proofs.Laws.{after-id}
-use Rattle.table.specs.Table.{Table, holds, isUnused, any, place, at, admitChecks, removeChecks, numberWith, receive, admit, remove}
+use Rattle.table.specs.Table.{Table, holds, isUnused, any, place, at, admitChecks, numberWith, receive, admit}
 use Rattle.arrivals.specs.Arrivals.{StreamRecord}
 use Rattle.table.proofs.Receiving.{number-any}
 use Rattle.arrivals.proofs.Places.{at-getD, at-set-other, held, place-stream}
-use Rattle.capture.specs.Records.{Held, damaged, arrival, admission, removal, frameIn}
+use Rattle.capture.specs.Records.{Held, damaged, arrival, admission, frameIn}
 use Rattle.capture.proofs.Kept.{kept}
-use Rattle.lines.specs.Lines.{admitted as line-admitted, removed as line-removed, refused}
-use Rattle.listing.specs.Listing.{Said, changeLine, frameLine, frameStream, step, visit}
+use Rattle.lines.specs.Lines.{refused}
+use Rattle.listing.specs.Listing.{Said, admissionLine, frameLine, saidOf, step, visit}
 use Rattle.report.specs.Report.{ListedFrame, isAbout, framesBy, since}
 
 -- ---- places of a table
@@ -81,9 +81,9 @@ module _ (P : Record → List ListedFrame → Type 0) (none-yet : (id limit : �
 
   -- another record x at the place p
   module _ (t : Table) (f g : Shows) (p : ℕ) (x : Record) (was : Follows t f)
-      (new : x .«in_use» ≡ true → P x (g (x .id)))
+      (new : P x (g (x .id)))
       (others : (i : ℕ) (r : Record) → i ≢ p → getElem? t i ≡ some r → r .«in_use» ≡ true → g (r .id) ≡ f (r .id))
-      (apart : (i : ℕ) (r : Record) → i ≢ p → getElem? t i ≡ some r → r .«in_use» ≡ true → x .«in_use» ≡ true → r .id ≢ x .id) where
+      (apart : (i : ℕ) (r : Record) → i ≢ p → getElem? t i ≡ some r → r .«in_use» ≡ true → r .id ≢ x .id) where
     -- a place is p, and x stands there, or it is another, and is as it was
     by-place : {X : Type 0} (i : ℕ) (r : Record) → getElem? (set t p x) i ≡ some r → (i ≡ p → r ≡ x → X) → (i ≢ p → getElem? t i ≡ some r → X) → X
     by-place {X} i r e here there = go (eqb i p) refl
@@ -98,14 +98,14 @@ module _ (P : Record → List ListedFrame → Type 0) (none-yet : (id limit : �
     with-set =
         record {
           own = λ i r e u. by-place i r e
-              (λ q z. subst (λ (y : Record). P y (g (y .id))) (sym z) (new (rw z at u)))
+              (λ q z. subst (λ (y : Record). P y (g (y .id))) (sym z) new)
               (λ n h. subst (P r) (sym (others i r n h u)) (was .own i r h u));
           one = λ i j r s e d u v same. by-place i r e
               (λ q z. by-place j s d
               (λ k y. q ∙ sym k)
-              (λ n h. absurd (apart j s n h v (rw z at u) (sym same ∙ ap (λ (y : Record). y .id) z))))
+              (λ n h. absurd (apart j s n h v (sym same ∙ ap (λ (y : Record). y .id) z))))
               (λ n h. by-place j s d
-              (λ k y. absurd (apart i r n h u (rw y at v) (same ∙ ap (λ (y : Record). y .id) y)))
+              (λ k y. absurd (apart i r n h u (same ∙ ap (λ (y : Record). y .id) y)))
               (λ m k. was .one i j r s h k u v same));
         }
 
@@ -129,7 +129,7 @@ module _ (P : Record → List ListedFrame → Type 0) (none-yet : (id limit : �
       home = place (holds (idOf frame)) t
 
       after-arrival : (n : ℕ) → numberWith t frame ≡ n
-          → (let a = ifAccepted n (answerOf (at t home) frame L) (refusedWith n) in Follows (ifAccepted n (set t home (after (at t home) frame L)) t) (more (record { stream = frameStream a; line = frameLine a }) f))
+          → (let a = ifAccepted n (answerOf (at t home) frame L) (refusedWith n) in Follows (ifAccepted n (set t home (after (at t home) frame L)) t) (more (saidOf a) f))
       unfolding answerOf refusedWith idOf
       after-arrival (suc n) e = was
       after-arrival zero e =
@@ -141,40 +141,28 @@ module _ (P : Record → List ListedFrame → Type 0) (none-yet : (id limit : �
           let named : after r frame L .id ≡ k = after-id r frame L ∙ x .id in
           subst (λ (y : Record). Follows (set t home (after y frame L)) (more (line y) f)) (sym (at-getD t home r unused (x .there)))
           (with-set t f (more (line r) f) home (after r frame L) was
-          (λ u. subst (λ (id : ℕ). P (after r frame L) (more (line r) f id)) (sym named)
+          (subst (λ (id : ℕ). P (after r frame L) (more (line r) f id)) (sym named)
           (rw (eq-eqb k k refl) (one-more r (f k) frame L (subst (λ (id : ℕ). P r (f id)) (x .id) (was .own home r (x .there) (x .in-use))))))
           (λ i s n h u. rw (ne-eqb k (s .id) (other-id k home r x i s n h u)))
-          (λ i s n h u v z. other-id k home r x i s n h u (sym (z ∙ named))))
+          (λ i s n h u z. other-id k home r x i s n h u (sym (z ∙ named))))
 
     module _ (id : ℕ) where
-      after-admission : (limit n : ℕ) → firstOf (admitChecks limit t id) ≡ n → Follows (ifAccepted n (set t (place isUnused t) (admittedWithin id limit)) t) (more (record { stream = some id; line = changeLine n line-admitted }) f)
+      after-admission : (limit n : ℕ) → firstOf (admitChecks limit t id) ≡ n → Follows (ifAccepted n (set t (place isUnused t) (admittedWithin id limit)) t) (more (record { stream = some id; line = admissionLine n }) f)
       unfolding admittedWithin
       after-admission limit (suc n) e = after-refusal id (suc n)
       after-admission limit zero e =
           let none = clear (admitChecks limit t id) tt e in
           let not-held : (i : ℕ) (r : Record) → getElem? t i ≡ some r → r .«in_use» ≡ true → id ≢ r .id = λ i r h u z. false≢true (sym (none .1 .0) ∙ any-at (holds id) t i r h (held id r u (sym z))) in
           with-set t f _ (place isUnused t) (admittedWithin id limit) was
-          (λ u. rw (eq-eqb id id refl) (none-yet id limit))
+          (rw (eq-eqb id id refl) (none-yet id limit))
           (λ i r n h u. rw (ne-eqb id (r .id) (not-held i r h u)))
-          (λ i r n h u v z. not-held i r h u (sym z))
-
-      after-removal : (n : ℕ) → firstOf (removeChecks t id) ≡ n → Follows (ifAccepted n (set t (place (holds id) t) unused) t) (more (record { stream = some id; line = changeLine n line-removed }) f)
-      unfolding unused
-      after-removal (suc n) e = after-refusal id (suc n)
-      after-removal zero e =
-          let none = clear (removeChecks t id) tt e in
-          let own = place-stream id t (not-false _ (none .1 .0)) in
-          with-set t f _ (place (holds id) t) unused was
-          (λ u. absurd (false≢true u))
-          (λ i r n h u. rw (ne-eqb id (r .id) (other-id id (place (holds id) t) (own .0) (own .1) i r n h u)))
-          (λ i r n h u v z. false≢true v)
+          (λ i r n h u z. not-held i r h u (sym z))
 
     after-record : (bytes : List ℕ) (held : Held) → Follows (step t bytes held .1) (more (step t bytes held .0) f)
-    unfolding receive admit remove
+    unfolding receive admit
     after-record bytes (damaged n) = was
     after-record bytes (arrival L) = after-arrival (frameIn bytes) L (numberWith t (frameIn bytes)) refl
     after-record bytes (admission id limit) = after-admission id limit (firstOf (admitChecks limit t id)) refl
-    after-record bytes (removal id) = after-removal id (firstOf (removeChecks t id)) refl
 
   -- ---- all of them
 

@@ -1,5 +1,5 @@
--- A line of a report, the report of document 01's capture and of its parts, that of a visit with a removal, that of stamps about half a wrap
--- away, and that of streams with limits.
+-- A line of a report, the report of document 01's capture and of its parts, that of a visit with a removal, which is not obeyed, that of stamps
+-- about half a wrap away, and those of streams with limits and of both tags.
 use Prim.Native.Nat.{ℕ}
 use mathlib.Core.Path.{_≡_}
 use mathlib.Core.Bool.{true, false}
@@ -36,9 +36,9 @@ dbc7 = 0x000600079002FFFF
 abbrev dbs7 : ℕ
 dbs7 = 0x000700009002FFFF
 
--- streams 1 and 12 are admitted; 1 has a frame and is removed, 3 takes its place, and 1 is admitted again. Then stream 12 has three frames
--- late, four ahead, one outside and two without a stamp; three of them break the sequence, two the block count, one changes the format, and
--- five mr
+-- streams 1 and 12 are admitted; 1 has a frame and is to be removed, which is not obeyed, 3 is admitted, and 1 is to be admitted again, and has
+-- another frame. Then stream 12 has three frames late, four ahead, one outside and two without a stamp; three of them break the sequence, two
+-- the block count, one changes the format, and five mr
 unfoldable pub visitCapture : List ℕ
 visitCapture =
     recordBytes 2 (bytes 8 1)
@@ -47,6 +47,7 @@ visitCapture =
     ++ recordBytes 3 (bytes 8 1)
     ++ recordBytes 2 (bytes 8 3)
     ++ recordBytes 2 (bytes 8 1)
+    ++ recordBytes 1 (reverse (bytes 8 1000) ++ soundFrame 1 1200)
     ++ frameAt 1000 stamped 0 990 dbc0
     ++ frameAt 1000 restarted 1 984 dbc0
     ++ frameAt 1000 stamped 3 996 dbc0
@@ -60,9 +61,9 @@ visitCapture =
 
 unfoldable pub visitReport : List ℕ
 visitReport =
-    ascii "3 0 0 0 0 0 0 0 0 0 0 0 0 none none none none 0\n"
+    ascii "1 2 1 0 0 0 0 0 0 1 1 0 0 -100 200 100 100/2 0\n"
     ++ ascii "12 10 3 2 1 5 2 0 1 3 4 0 0 -16 6 -14 -14/7 0\n"
-    ++ ascii "1 0 0 0 0 0 0 0 0 0 0 0 0 none none none none 0\n"
+    ++ ascii "3 0 0 0 0 0 0 0 0 0 0 0 0 none none none none 0\n"
 
 -- stream 12 has two frames half a wrap away, of which the first would otherwise be outside and the second late; one that is a nanosecond
 -- nearer, and is outside; one late and one ahead
@@ -120,8 +121,8 @@ pub record WorkedReport : Type 0 where
   pub admitted : report (take 12 exampleCapture) ≡ ascii "1 0 0 0 0 0 0 0 0 0 0 0 0 none none none none 0\n"
   -- and has a frame with L 1000, T 3000; then another stream, which is not admitted, has one
   pub frame : report (take 136 exampleCapture) ≡ ascii "1 1 0 0 0 0 0 0 0 0 1 0 0 2000 2000 2000 2000/1 0\n"
-  -- and is removed at the end
-  pub removed : report exampleCapture ≡ []
+  -- and is to be removed at the end, which changes nothing
+  pub whole : report exampleCapture ≡ report (take 136 exampleCapture)
   pub whole-visit : report visitCapture ≡ visitReport
   pub half-a-wrap : report halfWrapCapture ≡ ascii "12 5 0 0 0 0 0 0 1 1 1 2 0 -5 6 1 1/2 0\n"
   pub limits : report limitCapture ≡ limitReport

@@ -15,7 +15,7 @@ use Rattle.tally.specs.Tally.{sameKind, isTimed, mostSummed}
 use Rattle.stream.specs.declared.Flags.{Flags}
 use Rattle.stream.specs.declared.Counts.{Counts}
 use Rattle.table.specs.Table.{Table}
-use Rattle.lines.specs.Lines.{Line, admitted, removed, refused, frame}
+use Rattle.lines.specs.Lines.{Line, admitted, refused, frame}
 use Rattle.listing.specs.Listing.{Said, visit}
 use Rattle.report_lines.specs.Columns.{summedText, noneText, streamLine}
 
@@ -31,10 +31,10 @@ abbrev pub isAbout : ℕ → Option ℕ → Bool
 isAbout id none = false
 isAbout id (some stream) = eqb stream id
 
--- admission starts anew, removal drops what there was, and what is refused changes nothing; a line with `dbc=none` raises no block flag
+-- admission starts anew (in a capture a stream is admitted once at most, request #109), and what is refused changes nothing; a line with
+-- `dbc=none` raises no block flag
 abbrev pub framesBy : Line → List ListedFrame → List ListedFrame
 framesBy admitted frames = []
-framesBy removed frames = []
 framesBy (refused number) frames = frames
 framesBy (frame tag flags timing) frames = frames ++ (record { flags = flags; timing = timing } ∷ [])
 

@@ -28,8 +28,8 @@ fn report_in_chunks()
     ensures { λ _. ⌜ ReportInChunks ⌝ }
 {}
 
-// The rules report on a record, on document 01's capture and its parts, on a visit with a removal, on stamps about half a wrap away, and on
-// streams with limits as they should.
+// The rules report on a record, on document 01's capture and its parts, on a visit with a removal, which is not obeyed, on stamps about half a
+// wrap away, and on streams with limits and of both tags as they should.
 fn worked_report()
     ensures { λ _. ⌜ WorkedReport ⌝ }
 {}

@@ -11,13 +11,8 @@ returns-2 c = rw (c .before .be64 .ensures, ne-eqb _ _ (c .before .before .if1 .
 
 returns-3 : tie.Need-returns-3
 returns-3 c =
-    let by-id = c .before .before in
-    rw (c .limit-in .ensures, by-id .before .be64 .ensures, ne-eqb _ _ (by-id .before .before .if1 .left), ne-eqb _ _ (by-id .if2 .left), eq-eqb _ _ (c .before .if3 .taken))
-
-returns-4 : tie.Need-returns-4
-returns-4 c =
     let by-id = c .before in
-    rw (by-id .before .be64 .ensures, ne-eqb _ _ (by-id .before .before .if1 .left), ne-eqb _ _ (by-id .if2 .left), ne-eqb _ _ (c .if3 .left))
+    rw (c .limit-in .ensures, by-id .before .be64 .ensures, ne-eqb _ _ (by-id .before .before .if1 .left), ne-eqb _ _ (by-id .if2 .left))
 
 pub body-spec : {M : Type 1} → statement M
-body-spec = tie.close (tie.spec (λ c κs. search needs) returns (λ c κs. search needs) returns-2 (λ c κs. search needs) returns-3 returns-4)
+body-spec = tie.close (tie.spec (λ c κs. search needs) returns (λ c κs. search needs) returns-2 (λ c κs. search needs) returns-3)

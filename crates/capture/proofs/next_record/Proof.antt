@@ -5,7 +5,7 @@ use borrow.Author.Needs.{needs}
 use borrow.Author.Tests.{eq-eqb}
 use denote.Ref.{now}
 use Rattle.capture.specs.Records.{whole, lengthOf, kindOf, entryOf}
-use Rattle.capture.proofs.Fronts.{short, wrong, unknown, known}
+use Rattle.capture.proofs.Fronts.{short, wrong, retired, unknown, known}
 use Rattle.capture.proofs.next_record.Statement.{statement}
 use Rattle.capture.proofs.next_record.Tie as tie
 
@@ -36,20 +36,34 @@ returns-4 c =
     let there = right .before .before in
     let read = there .before in
     let rest = now (read .before .before .before .before .args .capture) in
-    unknown rest (read .before .before .if1 .left) (read .before .le16 .ensures) (read .le162 .ensures) (omega arith)
-    (sym (right .if3 .left) ∙ right .before .wrong-length .ensures) (sym (c .if4 .taken) ∙ c .before .unknown-kind .ensures)
+    retired rest (read .before .before .if1 .left) (read .before .le16 .ensures) (read .le162 .ensures) (omega arith)
+    (sym (right .if3 .left) ∙ right .before .wrong-length .ensures) (sym (c .if4 .taken) ∙ c .before .retired-kind .ensures)
 
 returns-5 : tie.Need-returns-5
 unfolding lengthOf kindOf
 returns-5 c =
-    let unknown = c .before .before in
-    let right = unknown .before in
+    let obeyed = c .before .before in
+    let right = obeyed .before .before in
+    let there = right .before .before in
+    let read = there .before in
+    let rest = now (read .before .before .before .before .args .capture) in
+    unknown rest (read .before .before .if1 .left) (read .before .le16 .ensures) (read .le162 .ensures) (omega arith)
+    (sym (right .if3 .left) ∙ right .before .wrong-length .ensures) (sym (obeyed .if4 .left) ∙ obeyed .before .retired-kind .ensures)
+    (sym (c .if5 .taken) ∙ c .before .unknown-kind .ensures)
+
+returns-6 : tie.Need-returns-6
+unfolding lengthOf kindOf
+returns-6 c =
+    let asked = c .before .before in
+    let obeyed = asked .before in
+    let right = obeyed .before .before in
     let there = right .before .before in
     let read = there .before in
     let rest = now (read .before .before .before .before .args .capture) in
     ap (whole (2 + read .before .le16 .result)) (c .body .ensures)
     ∙ known rest (read .before .before .if1 .left) (read .before .le16 .ensures) (read .le162 .ensures) (omega arith)
-    (sym (right .if3 .left) ∙ right .before .wrong-length .ensures) (sym (c .before .if4 .left) ∙ unknown .unknown-kind .ensures)
+    (sym (right .if3 .left) ∙ right .before .wrong-length .ensures) (sym (obeyed .if4 .left) ∙ obeyed .before .retired-kind .ensures)
+    (sym (c .before .if5 .left) ∙ asked .unknown-kind .ensures)
 
 pub next-record-spec : {M : Type 1} → statement M
 next-record-spec =
@@ -66,4 +80,6 @@ next-record-spec =
     (λ c κs. search needs)
     returns-4
     (λ c κs. search needs)
-    returns-5)
+    returns-5
+    (λ c κs. search needs)
+    returns-6)

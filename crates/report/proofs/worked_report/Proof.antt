@@ -9,8 +9,8 @@ use Rattle.tally.specs.Tally.{noTally, raised, kindsAfter, sumsAfter, counted}
 use Rattle.stream.specs.Records.{unused, admittedWithin, formatOf, formatChange, blockFlag, formatFlag, flagsOf, keptFormat, keptDbc, dbcExpected, bump, countsAfter, recordAfter}
 use Rattle.stream.specs.Step.{stepped}
 use Rattle.stream.specs.Answers.{refusedWith, stepOf, answerOf, after, idOf}
-use Rattle.table.specs.Table.{any, place, admit, remove, numberWith, receive}
-use Rattle.capture.specs.Records.{lengthOf, kindOf, frameIn, wrongLength, unknownKind, entryOf}
+use Rattle.table.specs.Table.{any, place, admit, numberWith, receive}
+use Rattle.capture.specs.Records.{lengthOf, kindOf, frameIn, wrongLength, retiredKind, unknownKind, entryOf}
 use Rattle.capture.specs.Walk.{walkFrom, walk}
 use Rattle.text.specs.Text.{digits, decimal}
 use Rattle.listing.specs.Listing.{visit}
@@ -22,8 +22,8 @@ use Rattle.report.proofs.worked_report.Statement.{statement}
 use Rattle.report.proofs.worked_report.Tie as tie
 
 returns : tie.Need-returns
-unfolding firstOf ethernetOf avtpOf streamOf cipOf noCip headerOf fieldsOf misaddressed blockBytes lengthChecks ethernetChecks avtpChecks addressChecks streamChecks blockChecks cipChecks headerChecks readChecks frameChecks refusal payloadOf blocksOf offset timed timingWithin stampOf presentationWithin noTally raised kindsAfter sumsAfter counted unused admittedWithin formatOf formatChange blockFlag formatFlag flagsOf keptFormat keptDbc dbcExpected bump countsAfter recordAfter stepped refusedWith stepOf answerOf after idOf any place admit remove numberWith receive lengthOf kindOf frameIn wrongLength unknownKind entryOf walkFrom walk digits decimal visit exampleCapture mixedCapture visitCapture visitReport halfWrapCapture limitCapture limitReport recordText sumsText countsText kindsText meanText summedText streamLine since howMany countsOf kindsOf offsets fold fourText streamText reportOf report
-returns c = record { columns = refl; admitted = refl; frame = refl; removed = refl; whole-visit = refl; half-a-wrap = refl; limits = refl; mixed = refl; empty = refl; cut = refl }
+unfolding firstOf ethernetOf avtpOf streamOf cipOf noCip headerOf fieldsOf misaddressed blockBytes lengthChecks ethernetChecks avtpChecks addressChecks streamChecks blockChecks cipChecks headerChecks readChecks frameChecks refusal payloadOf blocksOf offset timed timingWithin stampOf presentationWithin noTally raised kindsAfter sumsAfter counted unused admittedWithin formatOf formatChange blockFlag formatFlag flagsOf keptFormat keptDbc dbcExpected bump countsAfter recordAfter stepped refusedWith stepOf answerOf after idOf any place admit numberWith receive lengthOf kindOf frameIn wrongLength retiredKind unknownKind entryOf walkFrom walk digits decimal visit exampleCapture mixedCapture visitCapture visitReport halfWrapCapture limitCapture limitReport recordText sumsText countsText kindsText meanText summedText streamLine since howMany countsOf kindsOf offsets fold fourText streamText reportOf report
+returns c = record { columns = refl; admitted = refl; frame = refl; whole = refl; whole-visit = refl; half-a-wrap = refl; limits = refl; mixed = refl; empty = refl; cut = refl }
 
 pub worked-report-spec : {M : Type 1} → statement M
 worked-report-spec = tie.close (tie.spec returns)

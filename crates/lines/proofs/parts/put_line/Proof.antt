@@ -1,43 +1,23 @@
 use mathlib.Core.Path.{refl}
 use native.Mathlib.Omega.{arith}
 use borrow.Author.Needs.{needs}
-use Rattle.text.specs.Text.{ascii}
-use Rattle.lines.specs.Lines.{lineText}
-use Rattle.lines.proofs.Lengths.{numbered-length}
 use Rattle.lines.proofs.parts.put_line.Statement.{statement}
 use Rattle.lines.proofs.parts.put_line.Tie as tie
 
 returns : tie.Need-returns
-unfolding lineText
-returns c =
-    let done = c .before .before in
-    let case = done .before .before .before in
-    let start = case .before .before .before in
-    rw (case .enum-told .given .1) (done .put-numbered .ensures, omega (arith, numbered-length (start .args .n) (start .fits .n .fits) (ascii " admitted\n")))
+returns c = let done = c .before .before in rw (done .before .before .enum-told .given .1) (done .put-admitted .ensures .0, omega (arith, done .put-admitted .ensures .1))
 
 returns-2 : tie.Need-returns-2
-unfolding lineText
-returns-2 c =
-    let done = c .before .before in
-    let case = done .before .before .before in
-    let start = case .before .before .before in
-    rw (case .enum-told2 .given .1) (done .put-numbered2 .ensures, omega (arith, numbered-length (start .args .n) (start .fits .n .fits) (ascii " removed\n")))
+returns-2 c = let done = c .before .before in rw (done .before .before .before .outcome .given .1) (done .put-refused .ensures .0, omega (arith, done .put-refused .ensures .1))
 
 returns-3 : tie.Need-returns-3
-returns-3 c = let done = c .before .before in rw (done .before .before .before .outcome .given .1) (done .put-refused .ensures .0, omega (arith, done .put-refused .ensures .1))
-
-returns-4 : tie.Need-returns-4
-returns-4 c = let done = c .before .before in rw (done .before .before .before .outcome2 .given .1) (done .put-frame .ensures .0, omega (arith, done .put-frame .ensures .1))
+returns-3 c = let done = c .before .before in rw (done .before .before .before .outcome2 .given .1) (done .put-frame .ensures .0, omega (arith, done .put-frame .ensures .1))
 
 pub put-line-spec : {M : Type 1} → statement M
 put-line-spec =
     tie.close
     (tie.spec
     (λ c. search needs)
-    (λ c. refl)
-    (λ c κs. tt)
-    (λ c. search needs)
-    (λ c. refl)
     (λ c κs. tt)
     (λ c. search needs)
     (λ c κs. tt)
@@ -48,6 +28,4 @@ put-line-spec =
     (λ c. returns-2 c .0 .kept)
     returns-2
     (λ c. returns-3 c .0 .kept)
-    returns-3
-    (λ c. returns-4 c .0 .kept)
-    returns-4)
+    returns-3)

@@ -1,0 +1,3 @@
+pub mod LastAdmission
+pub mod Staying
+pub mod Example
