@@ -7,10 +7,15 @@ use native.Mathlib.Omega.{arith}
 use borrow.Author.Tests.{lt-ltb, le-ltb, ne-eqb, eqb-true, eqb-false, ltb-false}
 use lib.Dec.{eqb, ltb}
 use lib.ListN.{length}
+use Rattle.wire.specs.Numbers.{numberOr0, littleEndianOr0}
 use Rattle.refusal.specs.Refusals.{firstOf}
 use Rattle.capture.specs.Sizes.{RecordSizes}
 use Rattle.capture.specs.Numbers.{heldNumber, frontNumber, RecordNumbers}
-use Rattle.capture.specs.Records.{Held, damaged, arrival, admission, end, cut, whole, lengthOf, kindOf, sizeOf, bodyOf, wrongLength, retiredKind, unknownKind, recordChecks, heldBy, frontBy, entryOf}
+use Rattle.capture.specs.Records.{Held, damaged, arrival, admission, end, cut, whole, lengthOf, kindOf, sizeOf, limitOf, bodyOf, wrongLength, retiredKind, unknownKind, recordChecks, heldBy, frontBy, entryOf}
+
+-- what a record holds, by whether its kind is 1 and whether it is 2
+abbrev pub bodyBy : Bool → Bool → List ℕ → Held
+bodyBy one two rest = cond one (arrival (littleEndianOr0 4 8 rest)) (cond two (admission (numberOr0 4 8 rest) 2_147_483_647) (admission (numberOr0 4 8 rest) (limitOf rest)))
 
 -- a length n and a kind k were read, and something is left
 module _ (rest : List ℕ) {n k : ℕ} (some : length rest ≡ 0 → ⊥) (en : n ≡ lengthOf rest) (ek : k ≡ kindOf rest) where
@@ -87,13 +92,13 @@ numbered rest some = rw (ne-eqb (length rest) 0 some) (of-front (eqb n 41) refl)
     n : ℕ
     n = firstOf (recordChecks rest)
 
-    of-body : (one two : Bool) (L a m b n : ℕ) → heldNumber (cond one (arrival L) (cond two (admission a m) (admission b n))) ≡ 0
-    of-body true two L a m b n = refl
-    of-body false true L a m b n = refl
-    of-body false false L a m b n = refl
+    of-body : (one two : Bool) → heldNumber (bodyBy one two rest) ≡ 0
+    of-body true two = refl
+    of-body false true = refl
+    of-body false false = refl
 
     of-held : (k : ℕ) → heldNumber (heldBy k rest) ≡ k
-    of-held zero = of-body (eqb (kindOf rest) 1) (eqb (kindOf rest) 2) _ _ _ _ _
+    of-held zero = of-body (eqb (kindOf rest) 1) (eqb (kindOf rest) 2)
     of-held (suc k) = refl
 
     of-front : (b : Bool) → eqb n 41 ≡ b → frontNumber (cond b cut (whole (sizeOf rest) (heldBy n rest))) ≡ n

@@ -10,8 +10,8 @@ use lib.ListN.{length, take, drop, length-take, take-append-drop}
 use Rattle.wire.specs.Numbers.{littleEndian}
 use Rattle.refusal.specs.Refusals.{firstOf}
 use Rattle.refusal.proofs.First.{clear}
-use Rattle.capture.specs.Records.{Held, arrival, admission, end, cut, whole, lengthOf, kindOf, sizeOf, unknownKind, recordChecks, heldBy, entryOf}
-use Rattle.capture.proofs.Fronts.{all-there}
+use Rattle.capture.specs.Records.{Held, admission, end, cut, whole, lengthOf, kindOf, sizeOf, unknownKind, recordChecks, heldBy, entryOf}
+use Rattle.capture.proofs.Fronts.{bodyBy, all-there}
 use Rattle.capture.proofs.Parts.{never, read-same, at-least-10}
 
 -- what a whole record holds, by its number
@@ -35,12 +35,12 @@ kind-of-record rest size h l =
     sym (read-same 2 2 (take size rest) (drop size rest) (omega arith) littleEndian) ∙ ap (λ (s : List ℕ). kindOf s) (take-append-drop size rest)
 
 -- by kind
-of-body : (one two five : Bool) (L a b own id limit : ℕ) → cond one (arrival L) (cond two (admission a 2_147_483_647) (admission b own)) ≡ admission id limit
+of-body : (one two five : Bool) (rest : List ℕ) (id limit : ℕ) → bodyBy one two rest ≡ admission id limit
     → not (one || two || five) ≡ false → (five ≡ true → ⊥) → limit ≡ 2_147_483_647
-of-body true two five L a b own id limit e known not-5 = let z : _≡_ {A = ℕ} 0 1 = cc in absurd (omega arith)
-of-body false true five L a b own id limit e known not-5 = cc
-of-body false false true L a b own id limit e known not-5 = absurd (not-5 refl)
-of-body false false false L a b own id limit e known not-5 = never known
+of-body true two five rest id limit e known not-5 = let z : _≡_ {A = ℕ} 0 1 = cc in absurd (omega arith)
+of-body false true five rest id limit e known not-5 = cc
+of-body false false true rest id limit e known not-5 = absurd (not-5 refl)
+of-body false false false rest id limit e known not-5 = never known
 
 pub largest-but-5 : (rest : List ℕ) (size id limit : ℕ) → entryOf rest ≡ whole size (admission id limit) → (kindOf (take size rest) ≡ 5 → ⊥) → limit ≡ 2_147_483_647
 unfolding unknownKind
@@ -54,4 +54,4 @@ largest-but-5 rest size id limit e not-5 = go (firstOf (recordChecks rest)) refl
         let long = at-least-10 (lengthOf rest) (kindOf rest) (sound .1 .0) known in
         let there = all-there rest size (admission id limit) e in
         let own : kindOf (take size rest) ≡ kindOf rest = kind-of-record rest size (omega arith) (there .1) in
-        of-body (eqb (kindOf rest) 1) (eqb (kindOf rest) 2) (eqb (kindOf rest) 5) _ _ _ _ id limit h known (λ five. not-5 (own ∙ eqb-true (kindOf rest) 5 five))
+        of-body (eqb (kindOf rest) 1) (eqb (kindOf rest) 2) (eqb (kindOf rest) 5) rest id limit h known (λ five. not-5 (own ∙ eqb-true (kindOf rest) 5 five))

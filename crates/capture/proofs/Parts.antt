@@ -9,11 +9,11 @@ use borrow.Author.Tests.{eqb-true, ltb-false}
 use lib.Dec.{T, eqb, ltb}
 use lib.ListN.{length, drop, length-append, length-drop}
 use lib.Seq.{take-append-le, drop-append-le}
-use Rattle.wire.specs.Numbers.{part, spelledOr0, numberOr0, littleEndianOr0, number, littleEndian}
+use Rattle.wire.specs.Numbers.{part, spelledOr0, numberOr0, number, littleEndian}
 use Rattle.wire.proofs.Numbers.{there}
-use Rattle.capture.specs.Records.{arrival, admission, whole, lengthOf, kindOf, sizeOf, limitOf, bodyOf, wrongFor, wrongLength, retiredKind, unknownKind, entryOf}
+use Rattle.capture.specs.Records.{whole, lengthOf, kindOf, sizeOf, bodyOf, wrongFor, wrongLength, retiredKind, unknownKind, entryOf}
 use Rattle.capture.specs.Parts.{ReadInParts}
-use Rattle.capture.proofs.Fronts.{wrong, retired, unknown, known, all-there, sized}
+use Rattle.capture.proofs.Fronts.{bodyBy, wrong, retired, unknown, known, all-there, sized}
 
 pub never : {X : Type 0} → true ≡ false → X
 never e = absurd (subst T e tt)
@@ -114,9 +114,7 @@ module _ (rest later : List ℕ) (some : length rest ≡ 0 → ⊥) (all : sizeO
       id-same : numberOr0 4 8 both ≡ numberOr0 4 8 rest
       id-same = read-same 4 8 rest later (omega arith) number
 
-      go : (one two five : Bool) → eqb k 5 ≡ five → not (one || two || five) ≡ false
-          → cond one (arrival (littleEndianOr0 4 8 both)) (cond two (admission (numberOr0 4 8 both) 2_147_483_647) (admission (numberOr0 4 8 both) (limitOf both)))
-          ≡ cond one (arrival (littleEndianOr0 4 8 rest)) (cond two (admission (numberOr0 4 8 rest) 2_147_483_647) (admission (numberOr0 4 8 rest) (limitOf rest)))
+      go : (one two five : Bool) → eqb k 5 ≡ five → not (one || two || five) ≡ false → bodyBy one two both ≡ bodyBy one two rest
       go true two five e q = rw (read-same 4 8 rest later (omega arith) littleEndian)
       go false true five e q = rw id-same
       go false false true e q = let whole : n ≡ 14 = is-14 n k e w in rw (id-same, read-same 12 4 rest later (omega arith) littleEndian)

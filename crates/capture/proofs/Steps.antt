@@ -1,7 +1,7 @@
 -- Going through a capture is a step for each of its records. Assumes nothing.
 use Prim.Native.Nat.{ℕ, zero, suc}
 use mathlib.Core.Path.{_≡_, refl, ap}
-use mathlib.Core.List.{List, _∷_}
+use mathlib.Core.List.{List, [], _∷_}
 use lib.ListN.{length, take, drop}
 use Rattle.capture.specs.Records.{Held, Front, end, cut, whole, entryOf}
 use Rattle.capture.specs.Walk.{walkBy, walkFrom, walk, CaptureRecord, recordsIn, steps}
@@ -26,3 +26,10 @@ module _ {O S : Type 0} (step : S → List ℕ → Held → O × S) where
   pub walk-steps : (capture : List ℕ) (s : S) → walk step capture s ≡ steps step s (recordsIn capture)
   unfolding walk recordsIn
   walk-steps capture s = steps-from (length capture) capture s
+
+  -- what is said of the later records, and the state at the end: from the state that the first n leave
+  pub steps-later : (n : ℕ) (rs : List CaptureRecord) (s : S) → (let w = steps step s rs in (drop n (w .0), w .1)) ≡ steps step (steps step s (take n rs) .1) (drop n rs)
+  unfolding steps
+  steps-later zero rs s = refl
+  steps-later (suc n) [] s = refl
+  steps-later (suc n) (r ∷ rs) s = steps-later n rs (step s (r .bytes) (r .held) .1)

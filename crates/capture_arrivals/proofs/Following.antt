@@ -9,7 +9,7 @@ use lib.ListN.{take, drop, set, getElem?, replicate}
 use Rattle.refusal.specs.Refusals.{firstOf, ifAccepted}
 use Rattle.capture.specs.Records.{Held, damaged, arrival, admission, frameIn}
 use Rattle.capture.specs.Walk.{CaptureRecord, recordsIn, steps}
-use Rattle.capture.proofs.Steps.{walk-steps}
+use Rattle.capture.proofs.Steps.{walk-steps, steps-later}
 use Rattle.stream.specs.Records.{unused, admittedWithin}
 use Rattle.stream.specs.Answers.{Answer}
 use Rattle.table.specs.Table.{Table, isUnused, place, admitChecks, admit, receive}
@@ -56,18 +56,18 @@ unchanged t bytes (admission id limit) h e = refused-admission t id limit h
 -- ---- such records, from the table t on
 
 -- a list of arrivals l, the answers ys to them, what is said of them, xs, and the table u that is left
-record Alone (t : Table) (l : List Arrival) (ys : List Answer) (xs : List Said) (u : Table) : Type 0 where
+record IsRun (t : Table) (l : List Arrival) (ys : List Answer) (xs : List Said) (u : Table) : Type 0 where
   pub answers : ys ≡ run t l .0
   pub lines : xs ≡ map saidOf (run t l .0)
   pub table : u ≡ run t l .1
 
-abbrev AloneIn : Table → List CaptureRecord → Type 0
-AloneIn t rs = Alone t (arrivalsIn rs) (answersIn t rs) (saidIn rs (steps step t rs .0)) (steps step t rs .1)
+abbrev IsRunIn : Table → List CaptureRecord → Type 0
+IsRunIn t rs = IsRun t (arrivalsIn rs) (answersIn t rs) (saidIn rs (steps step t rs .0)) (steps step t rs .1)
 
 -- one record more
-module _ (rs : List CaptureRecord) (onward : (t : Table) → someAdmitted (steps step t rs .0) ≡ false → AloneIn t rs) (t : Table) (bytes : List ℕ) where
+module _ (rs : List CaptureRecord) (onward : (t : Table) → someAdmitted (steps step t rs .0) ≡ false → IsRunIn t rs) (t : Table) (bytes : List ℕ) where
   one-more : (held : Held) → (let a = step t bytes held in isAdmitted (a .0 .line) || someAdmitted (steps step (a .1) rs .0) ≡ false
-      → Alone t (arrivalBy bytes held ++ arrivalsIn rs) (map (λ (b : Arrival). receive t (b .frame) (b .time) .0) (arrivalBy bytes held) ++ answersIn (a .1) rs)
+      → IsRun t (arrivalBy bytes held ++ arrivalsIn rs) (map (λ (b : Arrival). receive t (b .frame) (b .time) .0) (arrivalBy bytes held) ++ answersIn (a .1) rs)
       (map (λ (b : Arrival). a .0) (arrivalBy bytes held) ++ saidIn rs (steps step (a .1) rs .0)) (steps step (a .1) rs .1))
   unfolding run
   one-more (damaged n) none = onward t none
@@ -79,12 +79,12 @@ module _ (rs : List CaptureRecord) (onward : (t : Table) → someAdmitted (steps
       let neither-is = neither t bytes (admission id limit) rs none in
       let same = refused-admission t id limit (neither-is .0) in
       let on = onward t (subst (λ (u : Table). someAdmitted (steps step u rs .0) ≡ false) same (neither-is .1)) in
-      subst (λ (u : Table). Alone t (arrivalsIn rs) (answersIn u rs) (saidIn rs (steps step u rs .0)) (steps step u rs .1)) (sym same) on
+      subst (λ (u : Table). IsRun t (arrivalsIn rs) (answersIn u rs) (saidIn rs (steps step u rs .0)) (steps step u rs .1)) (sym same) on
 
-alone : (rs : List CaptureRecord) (t : Table) → someAdmitted (steps step t rs .0) ≡ false → AloneIn t rs
+is-run : (rs : List CaptureRecord) (t : Table) → someAdmitted (steps step t rs .0) ≡ false → IsRunIn t rs
 unfolding someAdmitted steps run arrivalsIn answersIn saidIn
-alone [] t none = record { answers = refl; lines = refl; table = refl }
-alone (r ∷ rs) t none = one-more rs (alone rs) t (r .bytes) (r .held) none
+is-run [] t none = record { answers = refl; lines = refl; table = refl }
+is-run (r ∷ rs) t none = one-more rs (is-run rs) t (r .bytes) (r .held) none
 
 others : (rs : List CaptureRecord) (t : Table) → someAdmitted (steps step t rs .0) ≡ false
     → (i : ℕ) (r : CaptureRecord) → getElem? rs i ≡ some r → arrivalIn r ≡ [] → steps step t (take (suc i) rs) .1 ≡ steps step t (take i rs) .1
@@ -106,19 +106,6 @@ none-later (x ∷ xs) = go (none-later xs) (someAdmitted (x ∷ xs)) refl
     go later true e = later
     go later false e = e
 
--- records that are gone through in two parts
-later-said : (n : ℕ) (rs : List CaptureRecord) (t : Table) → drop n (steps step t rs .0) ≡ steps step (steps step t (take n rs) .1) (drop n rs) .0
-unfolding steps
-later-said zero rs t = refl
-later-said (suc n) [] t = refl
-later-said (suc n) (r ∷ rs) t = later-said n rs (step t (r .bytes) (r .held) .1)
-
-later-table : (n : ℕ) (rs : List CaptureRecord) (t : Table) → steps step t rs .1 ≡ steps step (steps step t (take n rs) .1) (drop n rs) .1
-unfolding steps
-later-table zero rs t = refl
-later-table (suc n) [] t = refl
-later-table (suc n) (r ∷ rs) t = later-table n rs (step t (r .bytes) (r .held) .1)
-
 module _ (rs : List CaptureRecord) (t : Table) where
   abbrev said : List Said
   said = steps step t rs .0
@@ -131,13 +118,14 @@ module _ (rs : List CaptureRecord) (t : Table) where
 
   from-admission : FramesAsArrivals then (drop n rs) (drop n said) (steps step t rs .1)
   from-admission =
-      let none : someAdmitted (steps step then (drop n rs) .0) ≡ false = subst (λ (xs : List Said). someAdmitted xs ≡ false) (later-said n rs t) (none-later said) in
-      let on = alone (drop n rs) then none in
+      let later = steps-later step n rs t in
+      let none : someAdmitted (steps step then (drop n rs) .0) ≡ false = subst (λ (w : List Said × Table). someAdmitted (w .0) ≡ false) later (none-later said) in
+      let on = is-run (drop n rs) then none in
       record {
         demand-3 = over-a-table then;
         answers = on .answers;
-        lines = ap (λ (xs : List Said). saidIn (drop n rs) xs) (later-said n rs t) ∙ on .lines;
-        table = later-table n rs t ∙ on .table;
+        lines = ap (λ (w : List Said × Table). saidIn (drop n rs) (w .0)) later ∙ on .lines;
+        table = ap (λ (w : List Said × Table). w .1) later ∙ on .table;
         others = others (drop n rs) then none;
       }
 

@@ -23,9 +23,9 @@ pub record WorkedCaptures : Type 0 where
   pub records : length (recordsIn retiredCapture) ≡ 11
   pub fifth : lastAdmission retiredCapture ≡ 5
   pub frames : map answered (run (tableAfter 5 retiredCapture) (arrivalsIn (drop 5 (recordsIn retiredCapture))) .0) ≡ (0, 5) ∷ (0, 9) ∷ []
-  -- kind 5; document 01's first record alone; and none
+  -- kind 5; document 01's first record by itself; and none
   pub limits : lastAdmission limitCapture ≡ 1
-  pub alone : lastAdmission (take 12 exampleCapture) ≡ 1
+  pub first-record : lastAdmission (take 12 exampleCapture) ≡ 1
   pub none : lastAdmission [] ≡ 0
   -- a frame that is cut is no arrival
   pub cut : arrivalsIn (recordsIn (take 70 exampleCapture)) ≡ []

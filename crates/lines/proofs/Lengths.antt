@@ -1,7 +1,7 @@
 -- How long the lines are at most. Assumes nothing.
-use Prim.Native.Nat.{ℕ, _+_, _≤_, _<_, _^_}
+use Prim.Native.Nat.{ℕ, _≤_, _<_, _^_}
 use mathlib.Core.Bool.{Bool, true, false}
-use mathlib.Core.List.{List, _++_}
+use mathlib.Core.List.{List}
 use native.Mathlib.Omega.{arith}
 use lib.ListN.{length, length-append}
 use Rattle.presentation.specs.declared.Kind.{Kind}
@@ -9,7 +9,7 @@ use Rattle.presentation.specs.declared.Kind.the-variants.{None, Cut, Outside, L
 use Rattle.presentation.specs.declared.Timing.{Timing}
 use Rattle.frame.specs.Layout.{hasCip}
 use Rattle.stream.specs.declared.Flags.{Flags}
-use Rattle.text.specs.Text.{ascii, decimal, signed}
+use Rattle.text.specs.Text.{ascii, signed}
 use Rattle.text.proofs.Decimals.{decimal-length}
 use Rattle.lines.specs.Lines.{endLine, ending, nextNumber, admitted, refused, frame, flagWord, blockWord, flagsText, kindWord, timingText, lineText}
 use Rattle.lines.specs.Placing.{lineRoom}

@@ -1,5 +1,5 @@
--- The lines of a listing (document 01, Capture and listing; request #106 for `unclear`, request #107 for `far`, request #108 for `dbc=none`).
--- Each ends in a line feed.
+-- The lines of a listing (document 01, Capture and listing; request #106 for `unclear`, request #107 for `far`, request #108 for `dbc=none`;
+-- without `removed`, by request #109). Each ends in a line feed.
 use Prim.Native.Nat.{ℕ, _+_, _%_, _^_}
 use mathlib.Core.Bool.{Bool, true, false}
 use mathlib.Core.List.{List, _++_}
@@ -23,7 +23,7 @@ endLine records = ascii "end records=" ++ decimal records ++ ascii "\n"
 
 -- ---- The line of a record
 
--- what it says of the record; a refusal has document 01's number
+-- what it says of the record; a refusal has its number
 pub data Line : Type 0 where
   admitted : Line
   refused : ℕ → Line

@@ -20,7 +20,7 @@ use Rattle.capture_arrivals.proofs.worked_captures.Tie as tie
 
 returns : tie.Need-returns
 unfolding firstOf ethernetOf avtpOf streamOf cipOf noCip headerOf fieldsOf misaddressed blockBytes lengthChecks ethernetChecks avtpChecks addressChecks streamChecks blockChecks cipChecks headerChecks readChecks frameChecks refusal payloadOf blocksOf offset timed timingWithin stampOf presentationWithin unused admittedWithin formatOf formatChange blockFlag formatFlag flagsOf keptFormat keptDbc dbcExpected bump countsAfter recordAfter stepped refusedWith frameStep answerOf after idOf any place admit numberWith receive lengthOf kindOf frameIn wrongLength retiredKind unknownKind entryOf walkFrom walk recordsIn steps run visit exampleCapture limitCapture retiredCapture someAdmitted upToAdmission arrivalsIn
-returns c = record { records = refl; fifth = refl; frames = refl; limits = refl; alone = refl; none = refl; cut = refl }
+returns c = record { records = refl; fifth = refl; frames = refl; limits = refl; first-record = refl; none = refl; cut = refl }
 
 pub worked-captures-spec : {M : Type 1} → statement M
 worked-captures-spec = tie.close (tie.spec returns)
