@@ -4,9 +4,9 @@
 #
 #   build.sh OUTDIR
 #
-# Puts second_list, second_report, second_cycles, second_packets, second_cases, the unit
-# tests of each (unit_tests, unit_tests_report, unit_tests_cycles, unit_tests_packets and
-# unit_tests_cases) and generate into OUTDIR. RUSTC may name the compiler.
+# Puts second_list, second_report, second_cycles, second_cases, the unit tests of
+# each (unit_tests, unit_tests_report, unit_tests_cycles and unit_tests_cases) and
+# generate into OUTDIR. RUSTC may name the compiler.
 set -euo pipefail
 
 if (($# != 1)); then
@@ -27,8 +27,6 @@ mkdir -p "$out"
 "$rustc" --test --edition 2021 -o "$out/unit_tests_report" "$here/report.rs"
 "$rustc" -O --edition 2021 -o "$out/second_cycles" "$here/cycles.rs"
 "$rustc" --test --edition 2021 -o "$out/unit_tests_cycles" "$here/cycles.rs"
-"$rustc" -O --edition 2021 -o "$out/second_packets" "$here/packets.rs"
-"$rustc" --test --edition 2021 -o "$out/unit_tests_packets" "$here/packets.rs"
 "$rustc" -O --edition 2021 -o "$out/second_cases" "$here/cases.rs"
 "$rustc" --test --edition 2021 -o "$out/unit_tests_cases" "$here/cases.rs"
 "$rustc" -O --edition 2021 -o "$out/generate" "$here/generate/main.rs"

@@ -8,25 +8,18 @@
 //! does); the last two say some of whole captures too. Neither a listing nor a report shows
 //! any of this, and the comparisons have to know that each came up.
 //!
-//! `second_cases --packets FILE..` does so for the source packets of a stream, with lines
-//! such as `packet dropped by count, a start` (`whole_packets.rs` says which there are). Each
-//! file is the eight bytes of the stream's id, and then a capture.
-//!
 //! This file is a root beside `list.rs`, over rooms that stand there too; from the
 //! bottom: wire, refusal, cip, frame, presentation, stream, table, capture, outcome,
-//! reading, starts, qpc, half_wrap, limits, tag_rules, tags, removals, assembly,
-//! stream_input, packet_rules, whole_packets.
+//! reading, starts, qpc, half_wrap, limits, tag_rules, tags, removals.
 //!
 //! Build: `build.sh OUTDIR`.
 
-mod assembly;
 mod capture;
 mod cip;
 mod frame;
 mod half_wrap;
 mod limits;
 mod outcome;
-mod packet_rules;
 mod presentation;
 mod qpc;
 mod reading;
@@ -36,11 +29,9 @@ mod removals;
 mod samples;
 mod starts;
 mod stream;
-mod stream_input;
 mod table;
 mod tag_rules;
 mod tags;
-mod whole_packets;
 mod wire;
 
 use half_wrap::half_wrap_cases;
@@ -50,14 +41,11 @@ use qpc::qpc_cases;
 use reading::{read_records, Failure, BUFFER};
 use removals::{removal_cases, Removals};
 use starts::start_cases;
-use std::ffi::OsString;
 use std::fs;
 use std::io::{self, BufWriter, Write};
 use std::process::ExitCode;
-use stream_input::read_id;
 use table::StreamTable;
 use tags::{tag_cases, Tags};
-use whole_packets::WholePackets;
 
 /// Writes a line for each case.
 fn write_lines(out: &mut impl Write, cases: &[String]) -> io::Result<()> {
@@ -95,37 +83,12 @@ fn write_cases(capture: &[u8], out: &mut impl Write, buffer: &mut [u8]) -> io::R
     }
 }
 
-/// Writes the lines of a stream's source packets: `input` is its id and one capture.
-fn write_packet_cases(mut input: &[u8], out: &mut impl Write, buffer: &mut [u8]) -> io::Result<()> {
-    let mut packets = WholePackets::new(read_id(&mut input)?);
-    // Bytes of whole records.
-    let mut whole = 0;
-    let capture = input;
-    let done = read_records(&mut input, buffer, |record| {
-        whole += 2 + record.len();
-        write_lines(out, &packets.record(record))
-    });
-    match done {
-        Ok(_) => write_lines(out, &packets.end_cases(&capture[whole..])),
-        Err(Failure::Read(error) | Failure::Write(error)) => Err(error),
-    }
-}
-
-/// What is asked for the cases of source packets.
-const PACKETS: &str = "--packets";
-
-/// Writes the lines of each file named.
+/// Writes the lines of each capture named.
 fn write_all_cases() -> io::Result<()> {
     let mut buffer = vec![0; BUFFER];
     let mut out = BufWriter::new(io::stdout().lock());
-    let words: Vec<OsString> = std::env::args_os().skip(1).collect();
-    match &words[..] {
-        [form, names @ ..] if form == PACKETS => names
-            .iter()
-            .try_for_each(|name| write_packet_cases(&fs::read(name)?, &mut out, &mut buffer))?,
-        names => names
-            .iter()
-            .try_for_each(|name| write_cases(&fs::read(name)?, &mut out, &mut buffer))?,
+    for name in std::env::args_os().skip(1) {
+        write_cases(&fs::read(name)?, &mut out, &mut buffer)?;
     }
     out.flush()
 }

@@ -23,7 +23,45 @@ fewest=1000000
 # shellcheck source-path=SCRIPTDIR source=comparing.sh
 source "$(dirname "${BASH_SOURCE[0]}")/comparing.sh"
 prepare "$1" second_cycles
-check_edges "edge questions" cycle_vectors --edge-questions "$first" "$second"
+# The edge questions stored with the first program.
+stored=$here/../crates/cycle_vectors
+
+# --- Edge questions ---------------------------------------------------------
+
+# Answers whether a file is the one stored under the name, and says where it isn't,
+# for answers with the first lines that only one of them has.
+stored_as() {
+    local file=$1 name=$2 what=$3
+    if [[ ! -f $stored/$name ]]; then
+        echo "edge questions: no file crates/cycle_vectors/$name"
+        return 1
+    fi
+    if ! cmp -s "$stored/$name" "$file"; then
+        echo "edge questions: crates/cycle_vectors/$name isn't $what"
+        if [[ $name == stdout ]]; then
+            { diff "$stored/$name" "$file" || true; } | sed -n '2,9s/^/  /p'
+        fi
+        return 1
+    fi
+}
+
+edges=true
+"$work/generate" --edge-questions >"$work/edge_questions"
+stored_as "$work/edge_questions" stdin "what the generator makes" || edges=false
+"$second" <"$work/edge_questions" >"$work/second.edges"
+stored_as "$work/second.edges" stdout "what the second program answers" || edges=false
+status=0
+timeout "$patience" "$first" <"$work/edge_questions" >"$work/first.edges" || status=$?
+stored_as "$work/first.edges" stdout "what the first program answers" || edges=false
+if ((status != 0)); then
+    echo "edge questions: the first program ends with status $status"
+    edges=false
+fi
+if [[ $edges == false ]]; then
+    echo "comparison: the edge questions or their answers are not those stored"
+    exit 1
+fi
+echo "edge questions: $(wc -l <"$work/second.edges"), answered as stored"
 
 # --- The questions of the seed ----------------------------------------------
 
@@ -82,6 +120,12 @@ second_answers | awk -v fewest="$fewest" -v total="$work/total" "$counting"'
         for (i = 1; i <= 5; i++) known("offset=" offsets[i])
         known("no question")
         answered = 0
+    }
+    function hex(digits,   number, i) {
+        number = 0
+        for (i = 1; i <= length(digits); i++)
+            number = 16 * number + index("0123456789abcdef", substr(digits, i, 1)) - 1
+        return number
     }
     # What a frame that is none has that tells that it has tag 0 (request #108): with tag 1
     # it would be refused or judged.

@@ -61,6 +61,18 @@ fi
 
 # --- Names ------------------------------------------------------------------
 
+# Gives the first program names that stand for no capture or for two: as the second
+# does, it has to say what is wrong, and to print no report. Its exit status is 0 in
+# every case.
+complains() {
+    run_first "$@"
+    if [[ -s $first_out || ! -s $work/errors ]]; then
+        differing[$*]=yes
+        echo "differs: given $*, the first program doesn't just say what is wrong;" \
+            "status $status, $(wc -c <"$first_out") bytes printed"
+    fi
+}
+
 name=${captures[${#captures[@]} / 2]}
 complains no-such.cap
 complains .

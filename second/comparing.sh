@@ -12,64 +12,17 @@ patience=120
 
 # --- Build and unit tests ---------------------------------------------------
 
-# Prints the whole path of a program, which has to be there: `whole_path PATH`.
-whole_path() {
+# Builds the second programs and runs their own tests. The programs to compare are
+# then `first`, by its path, and `second`, by its name: `prepare PATH NAME`.
+prepare() {
     if [[ ! -f $1 || ! -x $1 ]]; then
         echo "$(basename "$0"): $1: no program" >&2
         exit 2
     fi
-    echo "$(cd "$(dirname "$1")" && pwd)/$(basename "$1")"
-}
-
-# Builds the second programs and runs their own tests. The programs to compare are
-# then `first`, by its path, and `second`, by its name: `prepare PATH NAME`.
-prepare() {
-    first=$(whole_path "$1")
+    first=$(cd "$(dirname "$1")" && pwd)/$(basename "$1")
     second=$work/$2
     "$here/build.sh" "$work"
     "$here/own_tests.sh" "$work"
-}
-
-# --- Edges ------------------------------------------------------------------
-
-# Answers whether a file is the one stored under the name, and says where it isn't, for
-# answers with the first lines that only one of them has: `stored_as FILE NAME WHAT`.
-stored_as() {
-    local file=$1 name=$2 what=$3 stored=$here/../crates/$2
-    if [[ ! -f $stored ]]; then
-        echo "$edges: no file crates/$name"
-        return 1
-    fi
-    if ! cmp -s "$stored" "$file"; then
-        echo "$edges: crates/$name isn't $what"
-        if [[ $name == */stdout ]]; then
-            { diff "$stored" "$file" || true; } | sed -n '2,9s/^/  /p'
-        fi
-        return 1
-    fi
-}
-
-# Checks that the edges stored with a first program, in the folder of its name, are what
-# the generator makes at a word, and that their answers are those of both programs. They
-# are called WHAT: `check_edges WHAT FOLDER WORD FIRST SECOND..`.
-check_edges() {
-    local edges=$1 folder=$2 word=$3 first=$4 sound=true status=0
-    shift 4
-    "$work/generate" "$word" >"$work/edges"
-    stored_as "$work/edges" "$folder/stdin" "what the generator makes" || sound=false
-    "$@" <"$work/edges" >"$work/second.edges"
-    stored_as "$work/second.edges" "$folder/stdout" "what the second program answers" || sound=false
-    timeout "$patience" "$first" <"$work/edges" >"$work/first.edges" || status=$?
-    stored_as "$work/first.edges" "$folder/stdout" "what the first program answers" || sound=false
-    if ((status != 0)); then
-        echo "$edges: the first program ends with status $status"
-        sound=false
-    fi
-    if [[ $sound == false ]]; then
-        echo "comparison: the $edges or their answers are not those stored"
-        exit 1
-    fi
-    echo "$edges: $(wc -l <"$work/second.edges"), answered as stored"
 }
 
 # --- Captures ---------------------------------------------------------------
@@ -78,7 +31,7 @@ check_edges() {
 first_out=$work/first.out
 second_out=$work/second.out
 # Every one of this many captures goes through a pipe too. It shares no factor with
-# the 26 of kinds.rs or the 12 of whole_packets.rs, so that captures of each kind do.
+# the 26 of kinds.rs, so that captures of each kind do.
 piped_each=17
 # The captures for which they print something different, by name.
 declare -A differing=()
@@ -88,17 +41,12 @@ thinned=$work/thinned
 as_thinned="with nothing but frames after its last admission"
 
 # Makes captures and goes to their folder; `captures` are their names:
-# `generate_captures SEED COUNT [FORM]`.
-generate_captures() {
+# `make_captures SEED COUNT`.
+make_captures() {
     seed=$1
-    "$work/generate" ${3:+"$3"} "$work/captures" "$seed" "$2"
+    "$work/generate" "$work/captures" "$seed" "$2"
     cd "$work/captures" || exit
     captures=(*.cap)
-}
-
-# Does so, and thins them: `make_captures SEED COUNT`.
-make_captures() {
-    generate_captures "$@"
     "$work/generate" --thin "$thinned" "${captures[@]}"
 }
 
@@ -133,34 +81,15 @@ differs() {
     echo "  second program: $(grep -m 1 '^>' "$work/diff" || echo '(nothing more)')"
 }
 
-# Gives the first program words with which it has no capture to read, or two: as the
-# second does, it has to say what is wrong, and to print nothing. Its exit status is 0 in
-# every case.
-complains() {
-    run_first "$@"
-    if [[ -s $first_out || ! -s $work/errors ]]; then
-        differing[$*]=yes
-        echo "differs: given $*, the first program doesn't just say what is wrong;" \
-            "status $status, $(wc -c <"$first_out") bytes printed"
-    fi
-}
-
-# Sets the size of the pieces in which a file goes through a pipe, as the nth that does:
-# `choose_piece FILE N`.
-choose_piece() {
-    local pieces=(1 7 100)
-    piece=${pieces[$2 % 3]}
-    if ((piece == 1 && $(wc -c <"$1") > 200000)); then
-        piece=100
-    fi
-}
-
 # Gives some of the captures to the first program through a pipe, in small pieces.
 compare_piped() {
-    local i name piece piped=0
+    local i name piece pieces=(1 7 100) piped=0
     for ((i = 0; i < ${#captures[@]}; i += piped_each)); do
         name=${captures[i]}
-        choose_piece "$name" "$piped"
+        piece=${pieces[piped % 3]}
+        if ((piece == 1 && $(wc -c <"$name") > 200000)); then
+            piece=100
+        fi
         "$second" "$name" >"$second_out"
         if ! agrees < <("$work/generate" --drip "$name" "$piece"); then
             differs "$name" "piped $piece bytes at a time"
@@ -178,14 +107,8 @@ compare_piped() {
 # cases of half_wrap.rs, `limits_known` all of limits.rs, `tags_known` all of tags.rs,
 # `removals_known` all of removals.rs, `forbidden` a thing that may not, and `came` says that
 # one did: any other line, where it is neither. `shown` shows how often each came up, and
-# answers whether that is as it must be. `hex` is the number that hexadecimal digits are.
+# answers whether that is as it must be.
 counting='
-    function hex(digits,   number, i) {
-        number = 0
-        for (i = 1; i <= length(digits); i++)
-            number = 16 * number + index("0123456789abcdef", substr(digits, i, 1)) - 1
-        return number
-    }
     function known(name) {
         order[++names] = name
         count[name] += 0

@@ -13,10 +13,10 @@
 //! from the bottom: wire, refusal, cip, frame, presentation, stream, table,
 //! capture, outcome, lines, input, reading, listing. A room names only those before
 //! it. They stand here, and not in a folder of this program, so that another program
-//! over the same rooms is another root beside this one, as `report.rs`, `cycles.rs`,
-//! `packets.rs` and `cases.rs` are: its `mod` lines name the rooms that it needs, and
-//! rustc finds them by itself. The generator has a folder to itself: it knows the
-//! layouts by itself, so that a mistake in a room here is not made there as well.
+//! over the same rooms is another root beside this one, as `report.rs`, `cycles.rs`
+//! and `cases.rs` are: its `mod` lines name the rooms that it needs, and rustc finds
+//! them by itself. The generator has a folder to itself: it knows the layouts by
+//! itself, so that a mistake in a room here is not made there as well.
 //!
 //! Build: `build.sh OUTDIR`.
 

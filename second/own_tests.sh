@@ -13,7 +13,7 @@ fi
 said=$(mktemp)
 trap 'rm -f "$said"' EXIT
 
-for tests in unit_tests unit_tests_report unit_tests_cycles unit_tests_packets unit_tests_cases; do
+for tests in unit_tests unit_tests_report unit_tests_cycles unit_tests_cases; do
     if ! "$1/$tests" --quiet >"$said" 2>&1; then
         cat "$said"
         echo "comparison: the second program's own tests fail"

@@ -22,7 +22,7 @@ impl Sent<'_> {
         (0..4).fold(0, |number, byte| number << 8 | u32::from(self.byte(at + byte)))
     }
 
-    pub fn mr(&self) -> bool {
+    fn mr(&self) -> bool {
         self.byte(19) & 8 != 0
     }
 
@@ -30,7 +30,7 @@ impl Sent<'_> {
         self.byte(19) & 1 != 0
     }
 
-    pub fn sequence(&self) -> u8 {
+    fn sequence(&self) -> u8 {
         self.byte(20)
     }
 
@@ -44,7 +44,7 @@ impl Sent<'_> {
     }
 
     /// What is DBS with tag 1, as the bytes of a block.
-    pub fn block(&self) -> usize {
+    fn block(&self) -> usize {
         match self.byte(43) {
             0 => 1024,
             dbs => 4 * usize::from(dbs),

@@ -338,9 +338,28 @@ const NO_QUESTIONS: &[[u8; 2]] = &[
     [3, 255],
 ];
 
+/// A frame that says no more than it has to.
+fn plain() -> Frame {
+    Frame {
+        destination: [0x91, 0xE0, 0xF0, 0x00, 0x0E, 0x80],
+        source: [0x02, 0x1B, 0xC5, 0x01, 0x02, 0x03],
+        tpid: 0x8100,
+        ethertype: 0x22F0,
+        sv: true,
+        tv: true,
+        stream_id: 1,
+        stream_data_length: 8,
+        tag: 1,
+        tcode: 10,
+        indicators: [0, 2],
+        dbs: 1,
+        ..Frame::default()
+    }
+}
+
 /// The bytes of a plain frame with something changed.
 fn changed(change: impl FnOnce(&mut Frame)) -> Vec<u8> {
-    let mut frame = Frame::plain();
+    let mut frame = plain();
     change(&mut frame);
     frame.bytes()
 }
@@ -377,9 +396,9 @@ pub fn edge_questions() -> Vec<u8> {
     // All that isn't looked at is 0xFF.
     questions.extend(cycle_time_of(41, 0xFF));
     questions.extend(nanosecond_of([1, 1, 1], 0xFF));
-    questions.extend(judgement_of(ARRIVAL, &Frame::plain().bytes(), 0xFF));
+    questions.extend(judgement_of(ARRIVAL, &plain().bytes(), 0xFF));
     for &[asks, length] in NO_QUESTIONS {
-        let mut question = judgement_of(ARRIVAL, &Frame::plain().bytes(), 0);
+        let mut question = judgement_of(ARRIVAL, &plain().bytes(), 0);
         (question[0], question[1]) = (asks, length);
         questions.extend(question);
     }

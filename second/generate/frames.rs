@@ -62,25 +62,6 @@ pub fn block_size(dbs: u8) -> usize {
 }
 
 impl Frame {
-    /// A frame that says no more than it has to.
-    pub fn plain() -> Frame {
-        Frame {
-            destination: [0x91, 0xE0, 0xF0, 0x00, 0x0E, 0x80],
-            source: [0x02, 0x1B, 0xC5, 0x01, 0x02, 0x03],
-            tpid: 0x8100,
-            ethertype: 0x22F0,
-            sv: true,
-            tv: true,
-            stream_id: 1,
-            stream_data_length: 8,
-            tag: 1,
-            tcode: 10,
-            indicators: [0, 2],
-            dbs: 1,
-            ..Frame::default()
-        }
-    }
-
     /// A sound frame of the stream; all that may be anything is anything, and
     /// the payload is empty.
     pub fn sound(chance: &mut Chance, stream_id: u64) -> Frame {

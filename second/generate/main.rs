@@ -12,11 +12,6 @@
 //! - `generate --edge-questions` writes the questions about cycle time at the edges
 //!   of each rule to standard output.
 //! - `generate --questions SEED` writes those of a long comparison.
-//! - `generate --packets DIR SEED COUNT` writes COUNT captures DIR/000000.cap and on of a
-//!   stream whose source packets are put together, and beside each, as DIR/000000.id, the
-//!   eight bytes of the stream's id.
-//! - `generate --packet-edges` writes the bytes of such an id to standard output, and then a
-//!   capture with the edges of each rule about source packets.
 //!
 //! The generator has this folder to itself: rustc looks for a root's modules
 //! beside the root, and these are none of the other programs' rooms. Nothing is
@@ -39,7 +34,6 @@ mod limits;
 mod measuring;
 mod million;
 mod noise;
-mod packet_edges;
 mod questions;
 mod removals;
 mod senders;
@@ -50,7 +44,6 @@ mod times;
 mod traffic;
 mod transit;
 mod visits;
-mod whole_packets;
 
 use std::fs;
 use std::io::{self, BufWriter, Write};
@@ -66,17 +59,6 @@ fn write_captures(dir: &Path, seed: u64, count: u64) -> io::Result<()> {
     Ok(())
 }
 
-/// Writes the captures of a seed for source packets, and the stream ids.
-fn write_packet_captures(dir: &Path, seed: u64, count: u64) -> io::Result<()> {
-    fs::create_dir_all(dir)?;
-    for index in 0..count {
-        let (id, capture) = whole_packets::capture(seed, index);
-        fs::write(dir.join(format!("{index:06}.id")), id.to_be_bytes())?;
-        fs::write(dir.join(format!("{index:06}.cap")), capture)?;
-    }
-    Ok(())
-}
-
 /// Writes a file to standard output in small pieces.
 fn drip(file: &Path, piece: usize) -> io::Result<()> {
     let mut out = io::stdout().lock();
@@ -88,10 +70,10 @@ fn drip(file: &Path, piece: usize) -> io::Result<()> {
     Ok(())
 }
 
-/// Writes what is at the edges of some rules to standard output.
-fn write_edges(edges: &[u8]) -> io::Result<()> {
+/// Writes the edge questions to standard output.
+fn write_edge_questions() -> io::Result<()> {
     let mut out = io::stdout().lock();
-    out.write_all(edges)?;
+    out.write_all(&cycle_edges::edge_questions())?;
     out.flush()
 }
 
@@ -108,16 +90,13 @@ const USAGE: &str = "usage: generate DIR SEED COUNT
        generate --drip FILE PIECE
        generate --thin DIR FILE..
        generate --edge-questions
-       generate --questions SEED
-       generate --packets DIR SEED COUNT
-       generate --packet-edges";
+       generate --questions SEED";
 
 fn main() -> ExitCode {
     let words: Vec<String> = std::env::args().skip(1).collect();
     let words: Vec<&str> = words.iter().map(String::as_str).collect();
     let done = match words[..] {
-        ["--edge-questions"] => write_edges(&cycle_edges::edge_questions()),
-        ["--packet-edges"] => write_edges(&packet_edges::packet_edges()),
+        ["--edge-questions"] => write_edge_questions(),
         ["--questions", seed] => match seed.parse() {
             Ok(seed) => write_questions(seed),
             Err(_) => Err(io::Error::other(USAGE)),
@@ -129,10 +108,6 @@ fn main() -> ExitCode {
             Err(_) => Err(io::Error::other(USAGE)),
         },
         ["--thin", dir, ref names @ ..] => thinning::write_thinned(Path::new(dir), names),
-        ["--packets", dir, seed, count] => match (seed.parse(), count.parse()) {
-            (Ok(seed), Ok(count)) => write_packet_captures(Path::new(dir), seed, count),
-            _ => Err(io::Error::other(USAGE)),
-        },
         [dir, seed, count] => match (seed.parse(), count.parse()) {
             (Ok(seed), Ok(count)) => write_captures(Path::new(dir), seed, count),
             _ => Err(io::Error::other(USAGE)),

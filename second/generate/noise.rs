@@ -54,12 +54,6 @@ pub fn turned_bits(chance: &mut Chance) -> Capture {
 /// Traffic with some bytes of the capture changed, record lengths included.
 pub fn turned_bytes(chance: &mut Chance) -> Capture {
     let mut capture = traffic(chance, 20_000, 60);
-    turn_bytes(chance, &mut capture);
-    capture
-}
-
-/// Changes some bytes of a capture, which isn't empty.
-pub fn turn_bytes(chance: &mut Chance, capture: &mut Capture) {
     for _ in 0..chance.within(1, 6) {
         let place = chance.below(capture.bytes.len());
         capture.bytes[place] = match chance.below(3) {
@@ -68,4 +62,5 @@ pub fn turn_bytes(chance: &mut Chance, capture: &mut Capture) {
             _ => chance.pick(&[0, 1, 127, 128, 255]),
         };
     }
+    capture
 }

@@ -49,7 +49,7 @@ fn remove(chance: &mut Chance, capture: &mut Capture, id: u64) {
 
 /// Puts in another record that is refused for its length or its kind, or has one byte for
 /// a frame. After the kind come the stream's id and more, as far as there is room.
-pub fn put_refused(chance: &mut Chance, capture: &mut Capture, id: u64) {
+fn put_refused(chance: &mut Chance, capture: &mut Capture, id: u64) {
     let kind: u16 = chance.pick(&[0, 1, 1, 2, 2, 4, 5, 5, 257]);
     let mut counted = [&kind.to_le_bytes()[..], &id.to_be_bytes(), &[0; 2]].concat();
     counted.truncate(chance.pick(&[0, 0, 1, 1, 2, 9, 11, 12]));

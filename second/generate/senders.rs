@@ -80,29 +80,12 @@ impl Sender {
 
     /// The next frame, which has tag 1.
     pub fn send_blocks(&mut self, chance: &mut Chance, arrival: u64) -> Frame {
-        let frame = self.next_frame(chance);
+        let mut frame = self.next_frame(chance);
         let blocks = match chance.below(4) {
             0 => chance.within(0, self.most_blocks),
             1 if chance.one_in(4) => 0,
             _ => self.most_blocks,
         };
-        self.fill(chance, frame, arrival, blocks)
-    }
-
-    /// The next frame, which has tag 1 and so many blocks.
-    pub fn send_exactly(&mut self, chance: &mut Chance, arrival: u64, blocks: usize) -> Frame {
-        let frame = self.next_frame(chance);
-        self.fill(chance, frame, arrival, blocks)
-    }
-
-    /// The next frame with so many blocks.
-    fn fill(
-        &mut self,
-        chance: &mut Chance,
-        mut frame: Frame,
-        arrival: u64,
-        blocks: usize,
-    ) -> Frame {
         frame.carry(chance.bytes(blocks * block_size(frame.dbs)));
         self.dbc = self.dbc.wrapping_add(blocks as u8);
         finish(chance, &mut frame, arrival);

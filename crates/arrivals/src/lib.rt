@@ -1,5 +1,7 @@
 // What is claimed of lists of arrivals, over a table and over a record lent alone. There is nothing to run here: `table::receive` and
 // `table::receive_record` are the calls, and their contracts equate them with the functions that the claim is about.
+#![tactic(auto)]
+
 ghost use Rattle.arrivals.specs.Arrivals.{ListsOfArrivals};
 ghost use Rattle.arrivals.specs.Limits.{OwnLimits};
 ghost use Rattle.arrivals.specs.Listener.{Listener};

@@ -1,4 +1,6 @@
 // Lists captures: the files that the arguments name, one after the other, or standard input.
+#![tactic(auto)]
+
 mod help;
 
 ghost use Rattle.std.specs.Prelude.{◌≡◌, ◌≤◌, ltb};

@@ -1,4 +1,6 @@
 // The visit report of a capture: of the file that the argument names, or of standard input.
+#![tactic(auto)]
+
 mod help;
 
 ghost use Rattle.std.specs.Prelude.{◌≤◌, length, take};
@@ -9,7 +11,7 @@ use options::{Request, Word};
 use turns::Stage;
 
 // A report in a buffer: where the capture stands, and the place after the text; 0 where not all could be read.
-#[derive(Drop)]
+#[derive(Clone, Copy)]
 struct Reported {
     stage: Stage,
     end: usize,

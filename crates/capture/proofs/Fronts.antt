@@ -7,7 +7,7 @@ use native.Mathlib.Omega.{arith}
 use borrow.Author.Tests.{lt-ltb, le-ltb, ne_eqb, eqb-true, eqb-false, ltb-false}
 use lib.Dec.{eqb, ltb}
 use lib.ListN.{length}
-use Rattle.wire.specs.Numbers.{number_or_0, little_endian_or0}
+use Rattle.wire.specs.Numbers.{number_or_0, little_endian_or_0}
 use Rattle.refusal.specs.Refusals.{first_of}
 use Rattle.capture.specs.Sizes.{RecordSizes}
 use Rattle.capture.specs.Numbers.{held_number, front_number, RecordNumbers}
@@ -15,7 +15,7 @@ use Rattle.capture.specs.Records.{Held, damaged, arrival, admission, end, cut, w
 
 -- what a record holds, by whether its kind is 1 and whether it is 2
 abbrev pub body_by : Bool → Bool → List ℕ → Held
-body_by one two rest = cond one (arrival (little_endian_or0 4 8 rest)) (cond two (admission (number_or_0 4 8 rest) 2_147_483_647) (admission (number_or_0 4 8 rest) (limit_of rest)))
+body_by one two rest = cond one (arrival (little_endian_or_0 4 8 rest)) (cond two (admission (number_or_0 4 8 rest) 2_147_483_647) (admission (number_or_0 4 8 rest) (limit_of rest)))
 
 -- a length n and a kind k were read, and something is left
 module _ (rest : List ℕ) {n k : ℕ} (some : length rest ≡ 0 → ⊥) (en : n ≡ length_of rest) (ek : k ≡ kind_of rest) where

@@ -9,7 +9,7 @@ use borrow.Author.Tests.{eqb-true, ltb-false}
 use lib.Dec.{T, eqb, ltb}
 use lib.ListN.{length, drop, length-append, length-drop}
 use lib.Seq.{take-append-le, drop-append-le}
-use Rattle.wire.specs.Numbers.{part, spelled_or0, number_or_0, number, little_endian}
+use Rattle.wire.specs.Numbers.{part, spelled_or_0, number_or_0, number, little_endian}
 use Rattle.wire.proofs.Numbers.{there}
 use Rattle.capture.specs.Records.{whole, length_of, kind_of, size_of, body_of, wrong_for, wrong_length, retired_kind, unknown_kind, entry_of}
 use Rattle.capture.specs.Parts.{ReadInParts}
@@ -27,7 +27,7 @@ module _ (at k : ℕ) (s t : List ℕ) (h : at + k ≤ length s) where
   longer : at + k ≤ length (s ++ t)
   longer = rw (length-append s t) (omega arith)
 
-  pub read_same : (spelled : List ℕ → ℕ) → spelled_or0 spelled at k (s ++ t) ≡ spelled_or0 spelled at k s
+  pub read_same : (spelled : List ℕ → ℕ) → spelled_or_0 spelled at k (s ++ t) ≡ spelled_or_0 spelled at k s
   read_same spelled = there spelled at k (s ++ t) longer ∙ ap spelled part_same ∙ sym (there spelled at k s h)
 
 -- ---- how long a record is that is not refused

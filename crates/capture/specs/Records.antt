@@ -1,6 +1,6 @@
 -- A capture's records (document 01, Capture and listing; requests #107 and #109), over the bytes that remain of it.
 use Rattle.std.specs.Prelude.{ℕ, ◌+◌, Bool, false, cond, not, ◌||◌, List, [], ◌∷◌, eqb, ltb, length, drop}
-use Rattle.wire.specs.Numbers.{number_or_0, little_endian_or0}
+use Rattle.wire.specs.Numbers.{number_or_0, little_endian_or_0}
 use Rattle.refusal.specs.Refusals.{number_of, if_accepted, Check, ◌answers◌, first_of, differs}
 use Rattle.capture.specs.declared.Entry.{Entry}
 use Rattle.capture.specs.declared.Entry.TheVariants.{End, Cut, Whole}
@@ -42,23 +42,23 @@ front_of (Whole size content) = whole size (held_of content)
 
 -- a two-byte little-endian length of what follows in the record, a two-byte little-endian kind, then the body
 unfoldable pub length_of : List ℕ → ℕ
-length_of rest = little_endian_or0 0 2 rest
+length_of rest = little_endian_or_0 0 2 rest
 
 unfoldable pub kind_of : List ℕ → ℕ
-kind_of rest = little_endian_or0 2 2 rest
+kind_of rest = little_endian_or_0 2 2 rest
 
 abbrev pub size_of : List ℕ → ℕ
 size_of rest = 2 + length_of rest
 
 -- "eight id bytes, four limit bytes little-endian" (request #107)
 abbrev pub limit_of : List ℕ → ℕ
-limit_of rest = little_endian_or0 12 4 rest
+limit_of rest = little_endian_or_0 12 4 rest
 
 -- kind 1: eight-byte little-endian L, then a frame; kind 2 admits: eight id bytes in wire order, with 2,147,483,647; kind 5 admits with a limit.
 -- This is asked where no number is answered, and then the kind is one of these
 abbrev pub body_of : ℕ → List ℕ → Held
 body_of kind rest =
-    cond (eqb kind 1) (arrival (little_endian_or0 4 8 rest))
+    cond (eqb kind 1) (arrival (little_endian_or_0 4 8 rest))
     (cond (eqb kind 2) (admission (number_or_0 4 8 rest) 2_147_483_647)
     (admission (number_or_0 4 8 rest) (limit_of rest)))
 

@@ -1,4 +1,6 @@
 // A capture's records, one at a time: what stands at the front of the bytes that remain of it.
+#![tactic(auto)]
+
 ghost use Rattle.std.specs.Prelude.{◌≡◌, ◌≤◌, length};
 ghost use Rattle.wire.specs.Parts.{StandsIn};
 ghost use Rattle.capture.specs.Records.{held_of, front_of, entry_of, wrong_length, retired_kind, unknown_kind, limit_of, body_of, frame_in};
@@ -10,7 +12,7 @@ ghost use Rattle.capture.specs.InChunks.{WalkedInChunks};
 
 use refusal::Refusal;
 
-#[derive(Drop)]
+#[derive(Clone, Copy)]
 pub enum Entry {
     // Nothing is left.
     End,
@@ -20,7 +22,7 @@ pub enum Entry {
     Whole { size: usize, content: Content },
 }
 
-#[derive(Drop)]
+#[derive(Clone, Copy)]
 pub enum Content {
     // 42 to 44: skipped whole.
     Refused(Refusal),

@@ -1,5 +1,7 @@
 // The frames of a capture as a list of arrivals. There is nothing to run here: the claims are about what the listing says of a capture and the
 // table that it leaves, as `listing` defines them.
+#![tactic(auto)]
+
 ghost use Rattle.capture_arrivals.specs.LastAdmission.{AfterLastAdmission};
 ghost use Rattle.capture_arrivals.specs.Staying.{StaysAdmitted};
 ghost use Rattle.capture_arrivals.specs.Example.{WorkedCaptures};

@@ -7,7 +7,7 @@ use frame::Reading;
 use frame::layout::Fields;
 use refusal::Refusal;
 
-#[derive(Drop)]
+#[derive(Clone, Copy)]
 pub enum CycleKind {
     None,
     Late,
@@ -16,16 +16,16 @@ pub enum CycleKind {
 
 // Ticks from a frame's arrival to its SYT, below zero where the SYT lies before it. A type of its own, as the offset of a presentation
 // time is in nanoseconds.
-#[derive(Drop)]
+#[derive(Clone, Copy)]
 pub struct TickOffset(pub i64);
 
-#[derive(Drop)]
+#[derive(Clone, Copy)]
 pub struct CycleTiming {
     pub kind: CycleKind,
     pub offset: TickOffset,
 }
 
-#[derive(Drop)]
+#[derive(Clone, Copy)]
 pub enum Judgement {
     Judged(CycleTiming),
     Refused(Refusal),

@@ -1,6 +1,8 @@
 // Cycle time of IEEE 1394, for streams that come through a gateway (request #101): times of the network's clock in nanoseconds, times of
 // the cycle clock in ticks, and a frame judged by its SYT. The clocks are two types, and only conversions cross between them:
 // `to_cycle_time`, `to_ticks` and `judge` one way, by `tick_in_second`, and `to_nanoseconds` the other, by `first_nanosecond`.
+#![tactic(auto)]
+
 pub mod judgement;
 
 ghost use Rattle.std.specs.Prelude.{◌≡◌, ◌<◌};
@@ -10,29 +12,29 @@ ghost use Rattle.cycle.specs.CycleTime.{tick_in_second, cycle_time_of, ticks_of,
 use refusal::{Refusal, Verdict};
 
 // A time of the network's clock.
-#[derive(Drop)]
+#[derive(Clone, Copy)]
 pub struct Nanoseconds(pub u64);
 
 // Ticks of the cycle clock. `to_ticks` counts them from cycle second 0; private calls also from the start of a second, or modulo 16
 // cycles.
-#[derive(Drop)]
+#[derive(Clone, Copy)]
 pub struct Ticks(pub u64);
 
 // A time of the cycle clock by its parts. They may be out of range; the calls that take a cycle time refuse it then.
-#[derive(Drop)]
+#[derive(Clone, Copy)]
 pub struct CycleTime {
     pub seconds: u64,
     pub cycle: u64,
     pub offset: u64,
 }
 
-#[derive(Drop)]
+#[derive(Clone, Copy)]
 pub enum Instant {
     At(Nanoseconds),
     Refused(Refusal),
 }
 
-#[derive(Drop)]
+#[derive(Clone, Copy)]
 pub enum Syt {
     Value(u16),
     Refused(Refusal),

@@ -9,6 +9,8 @@
 //
 // Whatever else comes is answered `no question`. `stdin` and `stdout` beside `src/` hold the edges; the long comparison asks in the same
 // way.
+#![tactic(auto)]
+
 ghost use Rattle.std.specs.Prelude.{◌≤◌, ◌<◌};
 
 use cycle::judgement::{CycleKind, Judgement};

@@ -1,11 +1,13 @@
 // Files that are no captures, by how they start.
+#![tactic(auto)]
+
 ghost use Rattle.std.specs.Prelude.{◌≡◌};
 ghost use Rattle.text.specs.InTurn.{PutInTurn};
 ghost use Rattle.formats.specs.Formats.{start_of, hint_of};
 
 use words::starts_with;
 
-#[derive(Drop)]
+#[derive(Clone, Copy)]
 pub enum Format {
     // none of those below
     Other,

@@ -8,7 +8,7 @@ use borrow.Author.Tests.{eq-eqb, ne_eqb, lt-ltb, le-ltb}
 use lib.Dec.{ltb}
 use lib.ListN.{length}
 use Rattle.refusal.specs.declared.Refusal.{Refusal}
-use Rattle.refusal.specs.declared.Refusal.TheVariants.{CipHeaderCut}
+use Rattle.refusal.specs.declared.Refusal.TheVariants.{NoCipHeader}
 use Rattle.frame.specs.declared.layout.Fields.{Fields}
 use Rattle.frame.specs.declared.Reading.{Reading}
 use Rattle.frame.specs.declared.Reading.TheVariants.{Accepted, Refused}
@@ -79,9 +79,9 @@ module _ (frame : List ℕ) where
             accepts (sym (whole (rw has refl))) (rw (← hs, has, ps))
 
         module _ (tag : h.stream.tag ≡ 1) where
-          pub cip_header_cut : h.stream.data_length < 8 → read_answer (Refused CipHeaderCut) ≡ reading frame
+          pub no_cip_header : h.stream.data_length < 8 → read_answer (Refused NoCipHeader) ≡ reading frame
           unfolding first_of cip_checks
-          cip_header_cut l = refuses CipHeaderCut (whole (rw (eq-eqb h.stream.tag 1 tag, lt-ltb h.stream.data_length 8 l) refl))
+          no_cip_header l = refuses NoCipHeader (whole (rw (eq-eqb h.stream.tag 1 tag, lt-ltb h.stream.data_length 8 l) refl))
 
           module _ (room : 8 ≤ h.stream.data_length) {p : Cip} (ps : p ≡ cip_of frame) where
             number : {k : ℕ} → k ≡ first_of (block_checks h.stream p) → k ≡ refusal frame

@@ -3,7 +3,7 @@ ghost use Rattle.std.specs.Prelude.{◌≡◌, ◌≤◌, length};
 ghost use Rattle.frame.specs.Layout.{ethernet_of, avtp_of, stream_of, header_of, cip_of, no_cip};
 
 // Bytes 0 to 17: the Ethernet header with its VLAN tag. Addresses are 48-bit numbers.
-#[derive(Drop)]
+#[derive(Clone, Copy)]
 pub struct Ethernet {
     pub destination: u64,
     pub source: u64,
@@ -15,7 +15,7 @@ pub struct Ethernet {
 }
 
 // Bytes 18 to 21: what every AVTPDU of a stream starts with.
-#[derive(Drop)]
+#[derive(Clone, Copy)]
 pub struct Avtp {
     pub cd: bool,
     pub subtype: u8,
@@ -29,7 +29,7 @@ pub struct Avtp {
 }
 
 // Bytes 22 to 41: the stream, its AVTP timestamp, and the header of an IEEE 1394 packet.
-#[derive(Drop)]
+#[derive(Clone, Copy)]
 pub struct Stream {
     pub id: u64,
     pub timestamp: u32,
@@ -43,7 +43,7 @@ pub struct Stream {
 }
 
 // Bytes 42 to 49: the CIP header. Every field is 0 or no where there is none.
-#[derive(Drop)]
+#[derive(Clone, Copy)]
 pub struct Cip {
     pub sid: u8,
     pub dbs: u8,
@@ -59,14 +59,14 @@ pub struct Cip {
 }
 
 // What stands in the first 42 bytes, whatever the stream carries.
-#[derive(Drop)]
+#[derive(Clone, Copy)]
 pub struct Header {
     pub ethernet: Ethernet,
     pub avtp: Avtp,
     pub stream: Stream,
 }
 
-#[derive(Drop)]
+#[derive(Clone, Copy)]
 pub struct Fields {
     pub header: Header,
     pub cip: Cip,

@@ -1,5 +1,7 @@
 // Ethernet frames with an AVTPDU of IEEE 1722-2011 and, with tag 1, a CIP header of IEC 61883: any bytes in, document 01's fields and
 // payload or its first fitting number out.
+#![tactic(auto)]
+
 pub mod checks;
 pub mod layout;
 
@@ -13,7 +15,7 @@ ghost use Rattle.frame.specs.Ignored.{IgnoredBits};
 use layout::Fields;
 use refusal::{Refusal, Verdict};
 
-#[derive(Drop)]
+#[derive(Clone, Copy)]
 pub enum Reading {
     Accepted(Fields),
     Refused(Refusal),
@@ -38,7 +40,7 @@ pub fn read(frame: &[u8]) -> Reading
         return Reading::Accepted(Fields { header, cip });
     }
     if header.stream.data_length < 8 {
-        return Reading::Refused(Refusal::CipHeaderCut);
+        return Reading::Refused(Refusal::NoCipHeader);
     }
     let cip = layout::read_cip(frame);
     let by_blocks = checks::check_blocks(header.stream, cip);

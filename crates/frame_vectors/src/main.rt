@@ -1,6 +1,8 @@
 // Reads frames from standard input, each a line of hexadecimal digits, and prints what each is answered: `refused` and document 01's
 // number, or `accepted` and every field, its payload's length, its blocks and the payload's first four bytes, 0 where it has
 // fewer. A line that starts with `#` is printed as it stands.
+#![tactic(auto)]
+
 ghost use Rattle.std.specs.Prelude.{◌≤◌, ◌<◌, length};
 
 use frame::Reading;

@@ -1,10 +1,12 @@
 // A program's input: a buffer that holds what was read and is not used yet, between two places.
+#![tactic(auto)]
+
 ghost use Rattle.std.specs.Prelude.{◌≡◌, ◌-◌, ◌≤◌, cond, leb, length, take};
 ghost use Rattle.std.proofs.lemmas.List.Edits.{sets};
 ghost use Rattle.input.specs.Input.{is_open, has_failed, source_by, between, ReadBehind, First};
 
 // What became of the input.
-#[derive(Drop)]
+#[derive(Clone, Copy)]
 pub enum Source {
     // something came, and more may
     Open,
@@ -14,7 +16,7 @@ pub enum Source {
 }
 
 // What reading found: where the bytes end now, and what became of the input.
-#[derive(Drop)]
+#[derive(Clone, Copy)]
 pub struct Filled {
     pub end: usize,
     pub source: Source,

@@ -1,4 +1,6 @@
 // The lines of a listing, put into a buffer that the caller lends.
+#![tactic(auto)]
+
 mod parts;
 
 ghost use Rattle.std.specs.Prelude.{◌≡◌, ◌≤◌, length, nat_lt};
@@ -10,7 +12,7 @@ use refusal::Refusal;
 use stream::Flags;
 
 // What became of a record of a capture.
-#[derive(Drop)]
+#[derive(Clone, Copy)]
 pub enum Outcome {
     Admitted,
     Refused(Refusal),
@@ -22,7 +24,7 @@ pub enum Outcome {
     },
 }
 
-#[derive(Drop)]
+#[derive(Clone, Copy)]
 pub enum Placed {
     // The line is in the buffer, and this is the place after it.
     UpTo(usize),

@@ -18,7 +18,7 @@ use stream::{Receipt, Record};
 use table::Change;
 
 // How far the chunk is listed.
-#[derive(Drop)]
+#[derive(Clone, Copy)]
 pub struct Progress {
     // The bytes of the chunk that are used.
     pub at: usize,
@@ -29,7 +29,7 @@ pub struct Progress {
 }
 
 // The same on the way, and whether there may be more.
-#[derive(Drop)]
+#[derive(Clone, Copy)]
 pub(crate) struct Cursor {
     pub(crate) at: usize,
     pub(crate) put: usize,
@@ -221,7 +221,7 @@ pub(crate) fn list_chunk(
 }
 
 // A chunk that is listed with a table by value.
-#[derive(Drop)]
+#[derive(Clone, Copy)]
 pub struct Listed {
     pub table: [Record; 64],
     pub progress: Progress,

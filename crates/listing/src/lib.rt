@@ -1,4 +1,6 @@
 // The listing of a capture, a chunk at a time.
+#![tactic(auto)]
+
 pub mod chunk;
 
 ghost use Rattle.listing.specs.Listing.{Numbered, NothingShown};

@@ -1,4 +1,6 @@
 // What a program says on standard error, and what it writes to standard output.
+#![tactic(auto)]
+
 ghost use Rattle.std.specs.Prelude.{◌≡◌, true, []};
 ghost use Rattle.text.specs.InTurn.{PutInTurn};
 ghost use Rattle.messages.specs.Messages.{plain, shown_byte, shown, NamesArePrintable, about, message};

@@ -1,4 +1,6 @@
 // The words that a program is started with: names of files, and options.
+#![tactic(auto)]
+
 ghost use Rattle.std.specs.Prelude.{◌≡◌};
 ghost use Rattle.io.specs.Counts.{IsPrefixLen};
 ghost use Rattle.text.specs.Text.{ascii};
@@ -8,7 +10,7 @@ ghost use Rattle.options.specs.Options.{option_of, meaning, is_name, Meant, Requ
 use words::{same, starts_with};
 
 // What a word asks for.
-#[derive(Drop)]
+#[derive(Clone, Copy)]
 pub enum Word {
     // `-` among them, which names standard input
     Name,
@@ -62,7 +64,7 @@ pub fn classify(bytes: &[u8]) -> Word
 }
 
 // What the arguments ask for together: the first of them that is no name, and its place. Where all are names, the place behind them.
-#[derive(Drop)]
+#[derive(Clone, Copy)]
 pub struct Request {
     pub word: Word,
     pub at: usize,

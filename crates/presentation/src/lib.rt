@@ -1,4 +1,6 @@
 // Presentation time: a frame's stamp against the time at which it arrived.
+#![tactic(auto)]
+
 ghost use Rattle.std.specs.Prelude.{◌≡◌};
 ghost use Rattle.presentation.specs.Offset.{OneOffset, OffsetEdges};
 ghost use Rattle.presentation.specs.Presentation.{untimed, source_packet_stamp, timing_of, timing_within, timing, UnclearAtHalfWrap, FarAboveLimit, presentation_within, presentation};
@@ -6,7 +8,7 @@ ghost use Rattle.presentation.specs.Presentation.{untimed, source_packet_stamp, 
 use frame::layout::{Cip, Fields};
 use source_packet::Start;
 
-#[derive(Drop)]
+#[derive(Clone, Copy)]
 pub enum Kind {
     None,
     Cut,
@@ -17,7 +19,7 @@ pub enum Kind {
     Far,
 }
 
-#[derive(Drop)]
+#[derive(Clone, Copy)]
 pub struct Timing {
     pub kind: Kind,
     pub offset: i64,
@@ -25,7 +27,7 @@ pub struct Timing {
 }
 
 // What a frame has of a stamp: nothing, too few bytes for one, or the stamp T.
-#[derive(Drop)]
+#[derive(Clone, Copy)]
 pub enum Stamp {
     Absent,
     Short,

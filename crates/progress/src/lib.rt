@@ -1,11 +1,13 @@
 // How far a long run has come, shown on standard error about once a second. Only where that is a terminal, and standard output is a file:
 // what goes to a terminal tells by itself how far it has come, and a pipe may end at the same terminal.
+#![tactic(auto)]
+
 ghost use Rattle.std.specs.Prelude.{◌≡◌, false};
 ghost use Rattle.progress.specs.Progress.{ticked, Told, hidden};
 
 use libc::{STDERR_FILENO, STDOUT_FILENO};
 
-#[derive(Drop)]
+#[derive(Clone, Copy)]
 pub struct Progress {
     // Is it to be shown at all?
     wanted: bool,

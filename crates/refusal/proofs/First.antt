@@ -9,7 +9,7 @@ use borrow.Author.Tests.{lt-ltb, le-ltb, eq-eqb, ne_eqb}
 use lib.Dec.{T, eqb, ltb, ltb→lt}
 use mir.Facts.{and_yes}
 use Rattle.refusal.specs.declared.Refusal.{Refusal}
-use Rattle.refusal.specs.declared.Refusal.TheVariants.{FrameTooShort, FrameTooLong, WrongTpid, CfiSet, WrongEthertype, ControlAvtpdu, WrongSubtype, WrongVersion, NoStreamId, WrongAddress, DataBeyondFrame, WrongTag, CipHeaderCut, PartialBlock, NotAdmitted, WrongQpc, TableTooLong, AlreadyAdmitted, TableFull, NothingToRemove, LimitTooLarge, WriteWrongAddress, WriteFieldTooWide, WritePartialBlock, WritePayloadTooLong, WriteOutputTooShort, RecordCut, RecordLength, RecordKind, RecordRetired, NoCipHeader, NoSourcePacketHeader, SourcePacketTooLong, CycleTooLarge, OffsetInCycleTooLarge, CycleSecondsTooLarge}
+use Rattle.refusal.specs.declared.Refusal.TheVariants.{FrameTooShort, FrameTooLong, WrongTpid, CfiSet, WrongEthertype, ControlAvtpdu, WrongSubtype, WrongVersion, NoStreamId, WrongAddress, DataBeyondFrame, WrongTag, NoCipHeader, PartialBlock, NotAdmitted, WrongQpc, TableTooLong, AlreadyAdmitted, TableFull, NothingToRemove, LimitTooLarge, WriteWrongAddress, WriteFieldTooWide, WritePartialBlock, WritePayloadTooLong, WriteOutputTooShort, RecordCut, RecordLength, RecordKind, RecordRetired, CycleTooLarge, OffsetInCycleTooLarge, CycleSecondsTooLarge}
 use Rattle.refusal.specs.declared.Verdict.{Verdict}
 use Rattle.refusal.specs.declared.Verdict.TheVariants.{Passed, Refused}
 use Rattle.refusal.specs.Refusals.{verdict_number, number_of, Check, ◌answers◌, first_of}
@@ -28,7 +28,7 @@ positive NoStreamId = (8, refl)
 positive WrongAddress = (9, refl)
 positive DataBeyondFrame = (10, refl)
 positive WrongTag = (11, refl)
-positive CipHeaderCut = (12, refl)
+positive NoCipHeader = (12, refl)
 positive PartialBlock = (13, refl)
 positive NotAdmitted = (14, refl)
 positive WrongQpc = (15, refl)
@@ -46,9 +46,6 @@ positive RecordCut = (40, refl)
 positive RecordLength = (41, refl)
 positive RecordKind = (42, refl)
 positive RecordRetired = (43, refl)
-positive NoCipHeader = (49, refl)
-positive NoSourcePacketHeader = (50, refl)
-positive SourcePacketTooLong = (51, refl)
 positive CycleTooLarge = (60, refl)
 positive OffsetInCycleTooLarge = (61, refl)
 positive CycleSecondsTooLarge = (62, refl)

@@ -1,7 +1,7 @@
--- The numbers answered (document 01, Numbers answered; requests #101, #105, #107, #109 and #110).
+-- The numbers answered (document 01, Numbers answered; requests #101, #105, #107 and #109).
 use Rattle.std.specs.Prelude.{ℕ, zero, suc, Bool, not, cond, List, [], ◌∷◌, eqb}
 use Rattle.refusal.specs.declared.Refusal.{Refusal}
-use Rattle.refusal.specs.declared.Refusal.TheVariants.{FrameTooShort, FrameTooLong, WrongTpid, CfiSet, WrongEthertype, ControlAvtpdu, WrongSubtype, WrongVersion, NoStreamId, WrongAddress, DataBeyondFrame, WrongTag, CipHeaderCut, PartialBlock, NotAdmitted, WrongQpc, TableTooLong, AlreadyAdmitted, TableFull, NothingToRemove, LimitTooLarge, WriteWrongAddress, WriteFieldTooWide, WritePartialBlock, WritePayloadTooLong, WriteOutputTooShort, RecordCut, RecordLength, RecordKind, RecordRetired, NoCipHeader, NoSourcePacketHeader, SourcePacketTooLong, CycleTooLarge, OffsetInCycleTooLarge, CycleSecondsTooLarge}
+use Rattle.refusal.specs.declared.Refusal.TheVariants.{FrameTooShort, FrameTooLong, WrongTpid, CfiSet, WrongEthertype, ControlAvtpdu, WrongSubtype, WrongVersion, NoStreamId, WrongAddress, DataBeyondFrame, WrongTag, NoCipHeader, PartialBlock, NotAdmitted, WrongQpc, TableTooLong, AlreadyAdmitted, TableFull, NothingToRemove, LimitTooLarge, WriteWrongAddress, WriteFieldTooWide, WritePartialBlock, WritePayloadTooLong, WriteOutputTooShort, RecordCut, RecordLength, RecordKind, RecordRetired, CycleTooLarge, OffsetInCycleTooLarge, CycleSecondsTooLarge}
 use Rattle.refusal.specs.declared.Verdict.{Verdict}
 use Rattle.refusal.specs.declared.Verdict.TheVariants.{Passed, Refused}
 
@@ -18,7 +18,7 @@ number_of NoStreamId = 9
 number_of WrongAddress = 10
 number_of DataBeyondFrame = 11
 number_of WrongTag = 12
-number_of CipHeaderCut = 13
+number_of NoCipHeader = 13
 number_of PartialBlock = 14
 number_of NotAdmitted = 15
 number_of WrongQpc = 16
@@ -36,9 +36,6 @@ number_of RecordCut = 41
 number_of RecordLength = 42
 number_of RecordKind = 43
 number_of RecordRetired = 44
-number_of NoCipHeader = 50
-number_of NoSourcePacketHeader = 51
-number_of SourcePacketTooLong = 52
 number_of CycleTooLarge = 61
 number_of OffsetInCycleTooLarge = 62
 number_of CycleSecondsTooLarge = 63

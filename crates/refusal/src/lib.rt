@@ -1,8 +1,10 @@
 // Every reason for which a call of the analyser answers a number of document 01 or of a request of document 02.
+#![tactic(auto)]
+
 ghost use Rattle.std.specs.Prelude.{◌≡◌};
 ghost use Rattle.refusal.specs.Refusals.{number_of};
 
-#[derive(Drop)]
+#[derive(Clone, Copy)]
 pub enum Refusal {
     // Reading and receiving a frame: 1 to 15, and 16 (request #105), which is asked between 13 and 14; these three with tag 1 alone
     // (request #108).
@@ -18,7 +20,7 @@ pub enum Refusal {
     WrongAddress,
     DataBeyondFrame,
     WrongTag,
-    CipHeaderCut,
+    NoCipHeader,
     PartialBlock,
     NotAdmitted,
     WrongQpc,
@@ -39,10 +41,6 @@ pub enum Refusal {
     RecordLength,
     RecordKind,
     RecordRetired,
-    // Source packets (request #110): 50 to 52.
-    NoCipHeader,
-    NoSourcePacketHeader,
-    SourcePacketTooLong,
     // Cycle times (request #101): 61 to 63.
     CycleTooLarge,
     OffsetInCycleTooLarge,
@@ -50,7 +48,7 @@ pub enum Refusal {
 }
 
 // What some checks come to: none of them applies, or the first that does.
-#[derive(Drop)]
+#[derive(Clone, Copy)]
 pub enum Verdict {
     Passed,
     Refused(Refusal),
@@ -72,7 +70,7 @@ pub fn number(refusal: Refusal) -> u8
         Refusal::WrongAddress => 10,
         Refusal::DataBeyondFrame => 11,
         Refusal::WrongTag => 12,
-        Refusal::CipHeaderCut => 13,
+        Refusal::NoCipHeader => 13,
         Refusal::PartialBlock => 14,
         Refusal::NotAdmitted => 15,
         Refusal::WrongQpc => 16,
@@ -90,9 +88,6 @@ pub fn number(refusal: Refusal) -> u8
         Refusal::RecordLength => 42,
         Refusal::RecordKind => 43,
         Refusal::RecordRetired => 44,
-        Refusal::NoCipHeader => 50,
-        Refusal::NoSourcePacketHeader => 51,
-        Refusal::SourcePacketTooLong => 52,
         Refusal::CycleTooLarge => 61,
         Refusal::OffsetInCycleTooLarge => 62,
         Refusal::CycleSecondsTooLarge => 63,

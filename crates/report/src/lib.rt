@@ -1,4 +1,6 @@
 // The visit report of a capture: what it is, and that the table which a visit leaves, in whatever chunks, has its lines.
+#![tactic(auto)]
+
 ghost use Rattle.report.specs.Totals.{TotalsOfLines, OneLineEach, ReportOfTable, KindsAddUp};
 ghost use Rattle.report.specs.InChunks.{ReportInChunks};
 ghost use Rattle.report.specs.Example.{WorkedReport};

@@ -1,5 +1,7 @@
 // The lines of a visit report, put into a buffer that the caller lends. Each call answers the place after its text, and all of it is there
 // where that place is in the buffer.
+#![tactic(auto)]
+
 ghost use Rattle.std.specs.Prelude.{◌≤◌, ◌++◌, pos, ◌-ℤ◌, length};
 ghost use Rattle.text.specs.Text.{ascii, decimal, signed};
 ghost use Rattle.text.specs.InTurn.{PutInTurn};

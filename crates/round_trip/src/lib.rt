@@ -1,5 +1,7 @@
 // What is claimed of what a writer leaves and a reader answers. There is nothing to run here: `writer::write` and `frame::read` are the
 // calls, and their contracts equate them with the functions that the claims are about.
+#![tactic(auto)]
+
 ghost use Rattle.round_trip.specs.ReadBack.{ReadBack};
 ghost use Rattle.round_trip.specs.Successive.{Successive};
 ghost use Rattle.round_trip.specs.WriteBack.{WriteBack};

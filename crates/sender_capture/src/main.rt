@@ -1,5 +1,7 @@
 // Writes a capture to standard output: stream 1 is admitted, and then one sender's successive frames arrive, with payloads of no, one
 // and more blocks, while sequence number and block count wrap.
+#![tactic(auto)]
+
 ghost use Rattle.std.specs.Prelude.{◌≤◌};
 
 use libc::STDOUT_FILENO;

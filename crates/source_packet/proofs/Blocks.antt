@@ -14,11 +14,11 @@ use Rattle.frame.specs.Reading.{blocks_of}
 use Rattle.frame.proofs.Groups.{block_some}
 use Rattle.source_packet.specs.Blocks.{blocks_in, block_at}
 
-pub quadlet : (dbs : ℕ) → 4 ≤ block_bytes dbs
+quadlet : (dbs : ℕ) → 4 ≤ block_bytes dbs
 unfolding block_bytes
 quadlet dbs = omega (arith, block_some dbs)
 
-pub block_limit : (dbs : ℕ) → dbs < 256 → block_bytes dbs ≤ 1024
+block_limit : (dbs : ℕ) → dbs < 256 → block_bytes dbs ≤ 1024
 unfolding block_bytes
 block_limit zero h = omega arith
 block_limit (suc n) h = omega arith

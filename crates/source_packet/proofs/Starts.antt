@@ -13,7 +13,7 @@ use Rattle.wire.specs.Bits.{bits}
 use Rattle.frame.specs.declared.layout.Cip.{Cip}
 use Rattle.source_packet.specs.declared.Start.{Start}
 use Rattle.source_packet.specs.declared.Start.TheVariants.{Nowhere, Block}
-use Rattle.source_packet.specs.Blocks.{blocks_in, count_of, opens_packet, is_start, start_from, first_start, Earliest, IsFirstStart}
+use Rattle.source_packet.specs.Blocks.{blocks_in, count_of, is_start, start_from, first_start, Earliest, IsFirstStart}
 
 -- ---- the formula, over a number p of counts that divides 256 and whose multiples are the starts
 
@@ -23,7 +23,7 @@ module _ (c : Cip) (p : ℕ) (whole : p ∣ 256) (lowest : (n : ℕ) → n < 256
   place i = lowest (count_of c i) (mod-lt (c.dbc + i) (omega arith)) ∙ mod-mod_of_dvd p (c.dbc + i) whole
 
   earliest : c.dbc < 256 → Earliest c ((256 - c.dbc) % p)
-  unfolding is_start opens_packet
+  unfolding is_start
   earliest small =
       let some : 0 < p = pos_of_dvd_of_pos whole (omega arith) in
       let i = (256 - c.dbc) % p in
@@ -38,7 +38,7 @@ module _ (c : Cip) (p : ℕ) (whole : p ∣ 256) (lowest : (n : ℕ) → n < 256
 
 -- ---- its two cases: up to eight bits of a count, and more
 
-pub bits_of : (fn n : ℕ) → bits 0 fn n ≡ n % 2 ^ fn
+bits_of : (fn n : ℕ) → bits 0 fn n ≡ n % 2 ^ fn
 bits_of fn n = ap (λ (m : ℕ). m % 2 ^ fn) (div-one n)
 
 pub narrow : (c : Cip) → c.fraction_number ≤ 8 → c.dbc < 256 → Earliest c ((256 - c.dbc) % 2 ^ c.fraction_number)

@@ -24,17 +24,10 @@ count_of c i = (c.dbc + i) % 256
 
 -- ---- source packets
 
--- "A source packet is 2 to the power FN blocks". Which of them a block is, counted from 0, the lowest FN bits of its count say. (FN is at most
--- 3 in a frame; a count has eight bits, so from 8 on it is all of them.)
-abbrev pub place_by : ℕ → ℕ → ℕ
-place_by fn count = bits 0 fn count
-
--- "its header opens the block whose count has its lowest FN bits zero"
-unfoldable pub opens_packet : ℕ → ℕ → Bool
-opens_packet fn count = eqb (place_by fn count) 0
-
+-- A source packet is 2 to the power FN blocks, and "its header opens the block whose count has its lowest FN bits zero". (FN is at most 3
+-- in a frame; a count has eight bits, so from 8 on it is all of them.)
 unfoldable pub is_start : Cip → ℕ → Bool
-is_start c i = opens_packet c.fraction_number (count_of c i)
+is_start c i = eqb (bits 0 c.fraction_number (count_of c i)) 0
 
 -- the first of the n blocks from block i on that is such a block, nowhere if none is
 unfoldable pub start_from : Cip → ℕ → ℕ → Start

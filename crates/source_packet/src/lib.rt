@@ -1,19 +1,20 @@
 // Source packets and the blocks that carry them: which block of a frame opens one (request #102; IEC 61883-1).
+#![tactic(auto)]
+
 ghost use Rattle.std.specs.Prelude.{◌≡◌, ◌<◌};
 ghost use Rattle.source_packet.specs.Blocks.{Earliest, IsFirstStart, first_start};
 
 use frame::layout::Cip;
 
 // Where in a frame the first block stands that opens a source packet: nowhere, or at this block, counted from 0.
-#[derive(Drop)]
+#[derive(Clone, Copy)]
 pub enum Start {
     Nowhere,
     Block(usize),
 }
 
-// How many blocks come before the first that opens a source packet, in a frame that goes on for long enough: under 256, as every count comes up
-// by then.
-pub fn blocks_before_start(cip: Cip) -> usize
+// How many blocks come before the first that opens a source packet, in a frame that goes on for long enough.
+fn blocks_before_start(cip: Cip) -> usize
     ensures earliest { Earliest cip result }
     ensures upper_bound { result < 256 }
 {

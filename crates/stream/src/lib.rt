@@ -1,5 +1,7 @@
 // A stream's record, and what an accepted frame makes of it: the flags judged on the record as it stood, the presentation time, and
 // the record brought up to date.
+#![tactic(auto)]
+
 ghost use Rattle.std.specs.Prelude.{◌≡◌, ◌&&◌};
 ghost use Rattle.wire.specs.Parts.{StandsIn};
 ghost use Rattle.stream.specs.Records.{unused, admitted_within, ZeroRecords, format_of, format_change, sequence_break, kept_format, flags_of, next_dbc, bump, counts_after};
@@ -14,7 +16,7 @@ use refusal::Refusal;
 use tally::Tally;
 
 // The four format fields of a CIP header.
-#[derive(Drop)]
+#[derive(Clone, Copy)]
 pub struct Format {
     pub fmt: u8,
     pub dbs: u8,
@@ -23,7 +25,7 @@ pub struct Format {
 }
 
 // What a record keeps of CIP headers: those three of its fields.
-#[derive(Drop)]
+#[derive(Clone, Copy)]
 struct Kept {
     next_dbc: u8,
     dbc_expected: bool,
@@ -31,7 +33,7 @@ struct Kept {
 }
 
 // Counts since admission. Each stays at 4,294,967,295 once there.
-#[derive(Drop)]
+#[derive(Clone, Copy)]
 pub struct Counts {
     pub frames: u32,
     pub sequence_breaks: u32,
@@ -42,7 +44,7 @@ pub struct Counts {
 
 // A record has 136 bytes. Small fields stand side by side, but no order of the fields leaves less than 128, and with that a report took longer
 // (docs/changes/106.md).
-#[derive(Drop)]
+#[derive(Clone, Copy)]
 pub struct Record {
     pub in_use: bool,
     // a frame has been accepted since admission
@@ -65,7 +67,7 @@ pub struct Record {
     pub tally: Tally,
 }
 
-#[derive(Drop)]
+#[derive(Clone, Copy)]
 pub struct Flags {
     pub sequence: bool,
     pub block: bool,
@@ -73,7 +75,7 @@ pub struct Flags {
     pub mr: bool,
 }
 
-#[derive(Drop)]
+#[derive(Clone, Copy)]
 pub struct Stepped {
     pub after: Record,
     pub flags: Flags,
@@ -81,14 +83,14 @@ pub struct Stepped {
 }
 
 // What is answered to an accepted frame, beside its payload.
-#[derive(Drop)]
+#[derive(Clone, Copy)]
 pub struct Judged {
     pub fields: Fields,
     pub flags: Flags,
     pub timing: Timing,
 }
 
-#[derive(Drop)]
+#[derive(Clone, Copy)]
 pub enum Receipt {
     Accepted(Judged),
     Refused(Refusal),

@@ -1,5 +1,7 @@
 // Stream records in a table that the caller lends, and one record lent alone: admission, removal and receiving. Every call finds bad
 // input itself, and what it refuses changes no record.
+#![tactic(auto)]
+
 ghost use Rattle.std.specs.Prelude.{◌≡◌, ◌<◌, ltb, length, set, replicate};
 ghost use Rattle.frame.specs.Reading.{read_answer};
 ghost use Rattle.stream.specs.Records.{unused};
@@ -13,20 +15,20 @@ use refusal::Refusal;
 use stream::{Judged, Receipt, Record};
 
 // What a search looks for: the record in use that holds an id, or an unused one.
-#[derive(Drop)]
+#[derive(Clone, Copy)]
 pub(crate) enum Wanted {
     Holding(u64),
     Unused,
 }
 
-#[derive(Drop)]
+#[derive(Clone, Copy)]
 pub(crate) enum Found {
     At(usize),
     Nothing,
 }
 
 // What is asked of a table for an id.
-#[derive(Drop)]
+#[derive(Clone, Copy)]
 pub(crate) enum Asked {
     // with this limit
     Admission(u32),
@@ -34,34 +36,34 @@ pub(crate) enum Asked {
 }
 
 // Where a record is to be stored, and which, or why none is.
-#[derive(Drop)]
+#[derive(Clone, Copy)]
 pub(crate) enum Target {
     Place(usize, Record),
     Refuse(Refusal),
 }
 
 // What a frame is answered, and the record afterwards.
-#[derive(Drop)]
+#[derive(Clone, Copy)]
 pub(crate) struct Served {
     after: Record,
     receipt: Receipt,
 }
 
 // What admission and removal answer.
-#[derive(Drop)]
+#[derive(Clone, Copy)]
 pub enum Change {
     Made,
     Refused(Refusal),
 }
 
 // A whole table by value, with what was answered.
-#[derive(Drop)]
+#[derive(Clone, Copy)]
 pub struct Received {
     pub table: [Record; 64],
     pub receipt: Receipt,
 }
 
-#[derive(Drop)]
+#[derive(Clone, Copy)]
 pub struct Changed {
     pub table: [Record; 64],
     pub change: Change,

@@ -1,6 +1,8 @@
 // Tables of stream records at their edges: a table of 65 records, which every call refuses with 20, a record lent alone, one id twice, the
 // calls by value, the limit of each stream, and frames with and without a CIP header. Each call is made, and what it answers and leaves is
 // printed.
+#![tactic(auto)]
+
 ghost use Rattle.std.specs.Prelude.{◌≡◌};
 ghost use Rattle.table.specs.Table.{admit, remove, change_number, ChangedBy, Receives, ReceivesAlone};
 
@@ -192,14 +194,14 @@ fn frame_with_tag_2(id: u64, sequence: u8, dbc: u8) -> [u8; 82] {
 // ---- A table of 65 records, lent
 
 // What admission answered, then what removal of the same id did, and the table after both.
-#[derive(Drop)]
+#[derive(Clone, Copy)]
 struct Changes65 {
     table: [Record; 65],
     admission: Change,
     removal: Change,
 }
 
-#[derive(Drop)]
+#[derive(Clone, Copy)]
 struct Received65 {
     table: [Record; 65],
     receipt: Receipt,
@@ -286,7 +288,7 @@ fn show_frames_too_long(records: [Record; 65]) {
 
 // ---- A record lent alone
 
-#[derive(Drop)]
+#[derive(Clone, Copy)]
 struct Alone {
     after: Record,
     receipt: Receipt,

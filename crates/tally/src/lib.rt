@@ -1,5 +1,7 @@
 // What a stream's presentation times come to since its admission: how many frames had each kind of time, and, over the first 1,000,000
 // that were late or ahead, the smallest and the largest offset and the sum.
+#![tactic(auto)]
+
 ghost use Rattle.std.specs.Prelude.{◌≡◌};
 ghost use Rattle.tally.specs.Tally.{no_tally, raised_if, kind_number, kinds_after, is_timed, above_lowest, greater, sums_after, counted};
 
@@ -7,7 +9,7 @@ use presentation::{Kind, Timing};
 
 // How many frames had each kind. A count stays at its largest value once there. The two that most frames raise come first, the others side by
 // side behind them: the compiler moves these two at a time, and the last alone.
-#[derive(Drop)]
+#[derive(Clone, Copy)]
 pub struct Kinds {
     pub late: u64,
     pub ahead: u64,
@@ -20,7 +22,7 @@ pub struct Kinds {
 
 // Offsets lie between -2,147,483,648 and 2,147,483,647. Each is kept by how far it is from one of these ends, so that no number is below
 // zero and all of them start at zero.
-#[derive(Drop)]
+#[derive(Clone, Copy)]
 pub struct Sums {
     // how far the smallest is below the highest end
     pub smallest_below: u32,
@@ -33,7 +35,7 @@ pub struct Sums {
     pub unsummed: u64,
 }
 
-#[derive(Drop)]
+#[derive(Clone, Copy)]
 pub struct Tally {
     pub kinds: Kinds,
     pub sums: Sums,

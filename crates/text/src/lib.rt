@@ -1,5 +1,7 @@
 // Text put into a buffer at a place. Each call answers the place after the text: the text was put where that place is in the buffer,
 // and where it is past the buffer's end the buffer is as it was. A place that no number of 64 bits holds is answered as the largest.
+#![tactic(auto)]
+
 ghost use Rattle.std.specs.Prelude.{◌≡◌, ◌+◌, ◌*◌, ◌/◌, ◌%◌, ◌≤◌, ◌<◌, [], ◌∷◌, leb, nat_abs, length};
 ghost use Rattle.std.proofs.lemmas.List.Edits.{sets};
 ghost use Rattle.text.specs.Text.{decimal, signed};

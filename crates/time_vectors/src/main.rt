@@ -1,5 +1,7 @@
 // Presentation times at zero, at both ends of the offset, at the wraps of L and T, at both ends of the arrival time, and about half a wrap
 // away: each is reckoned and printed. Then about a stream's limit; which stamp is read, and from which block; and without a CIP header.
+#![tactic(auto)]
+
 use frame::layout::{Avtp, Cip, Ethernet, Fields, Header, Stream};
 use libc::STDOUT_FILENO;
 use presentation::{Kind, LARGEST_LIMIT, Timing};

@@ -1,4 +1,6 @@
 // A capture gone through as it is read: its bytes come into a buffer, and the lines of its records go out, turn by turn, where they are shown.
+#![tactic(auto)]
+
 ghost use Rattle.std.specs.Prelude.{◌≡◌, true, false, ◌≤◌, length, take};
 ghost use Rattle.lines.specs.Placing.{line_room};
 ghost use Rattle.turns.specs.Turns.{stage_by, is_going, is_read, started, InPlace, Turned, RecordsListed};
@@ -8,7 +10,7 @@ use libc::STDOUT_FILENO;
 use stream::Record;
 
 // Where a listing stands.
-#[derive(Drop)]
+#[derive(Clone, Copy)]
 pub enum Stage {
     Going,
     AllRead,
@@ -19,7 +21,7 @@ pub enum Stage {
 }
 
 // What a turn leaves: the table, the records listed, the place of the bytes that are not listed yet and their end, and the stage.
-#[derive(Drop)]
+#[derive(Clone, Copy)]
 pub struct State {
     pub table: [Record; 64],
     pub records: u64,

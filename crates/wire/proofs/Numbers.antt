@@ -13,7 +13,7 @@ use lib.ListN.{length, get_or, take, drop, length-append, length-drop, length-re
 use lib.Pow.{pow-add, pow_mono, shl_lt}
 use lib.Seq.{length-take-le, take-add, drop-drop, drop-cons}
 use Rattle.wire.specs.Bits.{width, Fit}
-use Rattle.wire.specs.Numbers.{Bytes, octets, number, bytes, part, spelled_or0, number_or_0, little_endian, little_endian_or0}
+use Rattle.wire.specs.Numbers.{Bytes, octets, number, bytes, part, spelled_or_0, number_or_0, little_endian, little_endian_or_0}
 use Rattle.wire.proofs.Bits.{joined, length_unpack, pack_lt, unpack_pack, pack_unpack}
 
 width_octets : (k : ℕ) → width (octets k) ≡ 8 * k
@@ -50,17 +50,17 @@ number_append (x ∷ a) b =
 -- what `holds` answered of the k bytes from place at on, and whether its answer was no
 module _ (spelled : List ℕ → ℕ) (at k : ℕ) (s : List ℕ) where
   module _ {r : Bool} (held : r ≡ leb (at + k) (length s)) where
-    pub missing : not r ≡ true → 0 ≡ spelled_or0 spelled at k s
+    pub missing : not r ≡ true → 0 ≡ spelled_or_0 spelled at k s
     missing e = rw (sym held ∙ not-true r e)
 
   -- what is there is read
-  pub there : at + k ≤ length s → spelled_or0 spelled at k s ≡ spelled (part at k s)
+  pub there : at + k ≤ length s → spelled_or_0 spelled at k s ≡ spelled (part at k s)
   there h = rw (le-leb (at + k) (length s) h)
 
-pub present : (at k : ℕ) (s : List ℕ) {r : Bool} → r ≡ leb (at + k) (length s) → not r ≡ false → at + k ≤ length s
-present at k s {r} held e = leb-true (at + k) (length s) (sym held ∙ not-false r e)
+pub present : (at k : ℕ) (s : List ℕ) {r : Bool} → r ≡ leb (at + k) (length s) → r ≡ true → at + k ≤ length s
+present at k s {r} held e = leb-true (at + k) (length s) (sym held ∙ e)
 
-pub byte_there : (spelled : List ℕ → ℕ) → ((b : ℕ) → spelled (b ∷ []) ≡ b) → (at : ℕ) (s : List ℕ) → at + 1 ≤ length s → get_or s at 0 ≡ spelled_or0 spelled at 1 s
+pub byte_there : (spelled : List ℕ → ℕ) → ((b : ℕ) → spelled (b ∷ []) ≡ b) → (at : ℕ) (s : List ℕ) → at + 1 ≤ length s → get_or s at 0 ≡ spelled_or_0 spelled at 1 s
 byte_there spelled one at s h = rw (there spelled at 1 s h, drop-cons s at 0 (omega arith)) (sym (one (get_or s at 0)))
 
 pub one_byte : (b : ℕ) → number (b ∷ []) ≡ b
@@ -70,8 +70,8 @@ one_byte b = omega arith
 -- m + n bytes. `whole` says which of the two is the higher.
 joins : (spelled : List ℕ → ℕ) (at high m low n w : ℕ) (s : List ℕ) {hi lo : ℕ} → at + (m + n) ≤ length s → high + m ≤ length s → low + n ≤ length s
     → spelled (part at (m + n) s) ≡ spelled (part high m s) * 2 ^ (8 * n) + spelled (part low n s) → 8 * m + 8 * n ≤ w
-    → hi ≡ spelled_or0 spelled high m s → lo ≡ spelled_or0 spelled low n s → hi < 2 ^ (8 * m) → lo < 2 ^ (8 * n)
-    → bit_or ((hi * 2 ^ (8 * n)) % 2 ^ w) lo ≡ spelled_or0 spelled at (m + n) s
+    → hi ≡ spelled_or_0 spelled high m s → lo ≡ spelled_or_0 spelled low n s → hi < 2 ^ (8 * m) → lo < 2 ^ (8 * n)
+    → bit_or ((hi * 2 ^ (8 * n)) % 2 ^ w) lo ≡ spelled_or_0 spelled at (m + n) s
 joins spelled at high m low n w s {hi} {lo} h hhigh hlow whole fit eh el hh hl =
     joined hi (8 * n) w hl (lt_of_lt_of_le (shl_lt (8 * m) (8 * n) hh) (pow_mono fit))
     ∙ rw (there spelled at (m + n) s h, whole, eh, el, there spelled high m s hhigh, there spelled low n s hlow) refl
@@ -97,6 +97,6 @@ le_split at m n s h =
     let turned : m + n ≡ n + m = omega arith in
     rw (turned, take-add n m (drop at s), drop-drop n at s, reverse-append low high, number_append (reverse high) (reverse low), l) refl
 
-pub le_beside : (at m n w : ℕ) (s : List ℕ) {hi lo : ℕ} → at + (m + n) ≤ length s → 8 * m + 8 * n ≤ w → hi ≡ little_endian_or0 (at + n) m s → lo ≡ little_endian_or0 at n s
-    → hi < 2 ^ (8 * m) → lo < 2 ^ (8 * n) → bit_or ((hi * 2 ^ (8 * n)) % 2 ^ w) lo ≡ little_endian_or0 at (m + n) s
+pub le_beside : (at m n w : ℕ) (s : List ℕ) {hi lo : ℕ} → at + (m + n) ≤ length s → 8 * m + 8 * n ≤ w → hi ≡ little_endian_or_0 (at + n) m s → lo ≡ little_endian_or_0 at n s
+    → hi < 2 ^ (8 * m) → lo < 2 ^ (8 * n) → bit_or ((hi * 2 ^ (8 * n)) % 2 ^ w) lo ≡ little_endian_or_0 at (m + n) s
 le_beside at m n w s h = joins little_endian at (at + n) m at n w s h (omega arith) (omega arith) (le_split at m n s h)

@@ -27,11 +27,11 @@ abbrev pub number_at : ℕ → ℕ → List ℕ → ℕ
 number_at at k bs = number (part at k bs)
 
 -- what a spelling of bytes gives for them, and 0 where bs ends before they do
-abbrev pub spelled_or0 : (List ℕ → ℕ) → ℕ → ℕ → List ℕ → ℕ
-spelled_or0 spelled at k bs = cond (leb (at + k) (length bs)) (spelled (part at k bs)) 0
+abbrev pub spelled_or_0 : (List ℕ → ℕ) → ℕ → ℕ → List ℕ → ℕ
+spelled_or_0 spelled at k bs = cond (leb (at + k) (length bs)) (spelled (part at k bs)) 0
 
 abbrev pub number_or_0 : ℕ → ℕ → List ℕ → ℕ
-number_or_0 at k bs = spelled_or0 number at k bs
+number_or_0 at k bs = spelled_or_0 number at k bs
 
 -- ---- A capture's own numbers are little-endian (document 01, Capture and listing)
 
@@ -39,5 +39,5 @@ number_or_0 at k bs = spelled_or0 number at k bs
 abbrev pub little_endian : List ℕ → ℕ
 little_endian bs = number (reverse bs)
 
-abbrev pub little_endian_or0 : ℕ → ℕ → List ℕ → ℕ
-little_endian_or0 at k bs = spelled_or0 little_endian at k bs
+abbrev pub little_endian_or_0 : ℕ → ℕ → List ℕ → ℕ
+little_endian_or_0 at k bs = spelled_or_0 little_endian at k bs

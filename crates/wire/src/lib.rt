@@ -1,6 +1,8 @@
 // Numbers on the wire, most significant byte first. Each reader answers 0 where the slice ends before the number does.
+#![tactic(auto)]
+
 ghost use Rattle.std.specs.Prelude.{◌≡◌, ◌+◌, leb};
-ghost use Rattle.wire.specs.Numbers.{number_or_0, little_endian_or0};
+ghost use Rattle.wire.specs.Numbers.{number_or_0, little_endian_or_0};
 ghost use Rattle.wire.specs.RoundTrips.{RoundTrips};
 
 // Does a slice of `len` bytes hold `k` bytes from place `at` on?
@@ -66,7 +68,7 @@ pub fn be64(s: &[u8], at: usize) -> u64
 
 // A capture's own numbers have the least significant byte first.
 pub fn le16(s: &[u8], at: usize) -> u16
-    ensures { result ≡ little_endian_or0 at 2 s.now }
+    ensures { result ≡ little_endian_or_0 at 2 s.now }
 {
     if !holds(s.len(), at, 2) {
         return 0;
@@ -75,7 +77,7 @@ pub fn le16(s: &[u8], at: usize) -> u16
 }
 
 pub fn le32(s: &[u8], at: usize) -> u32
-    ensures { result ≡ little_endian_or0 at 4 s.now }
+    ensures { result ≡ little_endian_or_0 at 4 s.now }
 {
     if !holds(s.len(), at, 4) {
         return 0;
@@ -84,7 +86,7 @@ pub fn le32(s: &[u8], at: usize) -> u32
 }
 
 pub fn le64(s: &[u8], at: usize) -> u64
-    ensures { result ≡ little_endian_or0 at 8 s.now }
+    ensures { result ≡ little_endian_or_0 at 8 s.now }
 {
     if !holds(s.len(), at, 8) {
         return 0;

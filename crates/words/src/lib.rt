@@ -1,4 +1,6 @@
 // Texts compared.
+#![tactic(auto)]
+
 ghost use Rattle.std.specs.Prelude.{◌≡◌};
 ghost use Rattle.words.specs.Words.{starts_with, same as sameWord};
 

@@ -1,4 +1,6 @@
 // Sending: frames written for one sender, with the next sequence number and block count.
+#![tactic(auto)]
+
 mod checks;
 pub mod given;
 mod output;
@@ -11,13 +13,13 @@ use given::Given;
 use refusal::{Refusal, Verdict};
 
 // The next sequence number and block count.
-#[derive(Drop)]
+#[derive(Clone, Copy)]
 pub struct Sender {
     pub sequence: u8,
     pub dbc: u8,
 }
 
-#[derive(Drop)]
+#[derive(Clone, Copy)]
 pub enum Written {
     // the sender moved on
     Sent(Sender),

@@ -1,4 +1,6 @@
 // Writes a frame for every edge of every field, of the payload's length and of each refusal, reads it back, and prints a line for each.
+#![tactic(auto)]
+
 mod again;
 mod agree;
 mod show;
