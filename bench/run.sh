@@ -10,16 +10,18 @@ cd "$(dirname "$0")/.."
 turns=${1:-25}
 work=$(mktemp -d)
 trap 'rm -rf "$work"' EXIT
-# what is measured, and how the names of the two programs for it begin
+# what is measured, the first program for each, and how the names of the second ones begin
 measured=(list report)
-first=target/bin/avtp_
+program() {
+    echo "crates/avtp_$1/out/avtp_$1"
+}
 second=$work/second_
 # what they print for the same capture
 first_out=$work/first.out
 second_out=$work/second.out
 
 for what in "${measured[@]}"; do
-    rt check "avtp_$what" >"$work/check.log" 2>&1 || { cat "$work/check.log"; exit 1; }
+    (cd "crates/avtp_$what" && rt run -- --version) >"$work/check.log" 2>&1 || { cat "$work/check.log"; exit 1; }
 done
 second/build.sh "$work"
 "$work/generate" --bench "$work/captures" >/dev/null
@@ -35,13 +37,13 @@ once() {
 # two pairs of runs, in which each program is the first once: a line for each pair, with the times of both
 two_pairs() {
     local what=$1 capture=$2 first_took second_took
-    once "$first$what" "$capture"
+    once "$(program "$what")" "$capture"
     first_took=$took
     once "$second$what" "$capture"
     echo "$first_took $took"
     once "$second$what" "$capture"
     second_took=$took
-    once "$first$what" "$capture"
+    once "$(program "$what")" "$capture"
     echo "$took $second_took"
 }
 
@@ -65,13 +67,13 @@ pairs_of() {
 # a line of the table: what was measured, on which capture
 row() {
     local what=$1 capture=$2 records pairs
-    "$first$what" "$capture" >"$first_out"
+    "$(program "$what")" "$capture" >"$first_out"
     "$second$what" "$capture" >"$second_out"
     cmp "$first_out" "$second_out"
     records=$("${second}list" "$capture" | sed -n 's/^end records=//p')
     pairs=$(pairs_of "$what" "$capture")
     awk -v name="$(basename "$capture" .cap)" -v n="$records" \
-        -v fi="$(instructions "$first$what" "$capture")" -v si="$(instructions "$second$what" "$capture")" \
+        -v fi="$(instructions "$(program "$what")" "$capture")" -v si="$(instructions "$second$what" "$capture")" \
         -v ft="$(awk '{ print $1 }' "$pairs" | fastest)" -v st="$(awk '{ print $2 }' "$pairs" | fastest)" \
         -v ratio="$(awk '{ print $1 / $2 }' "$pairs" | median)" 'BEGIN {
             printf "%-12s %9d | %8.1f %8.1f %6.2f | %8.1f %8.1f %6.2f\n",

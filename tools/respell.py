@@ -17,7 +17,7 @@ import sys
 NAME = r'[^\s(){}.;,@"«»\[\]`]+'
 DECLARED = re.compile(r"^ *(?:pub |abbrev |unfoldable |data |record |ruleset )*(" + NAME + r")(?: \{[^{}]*\}| \([^()]*\))* (:|=|where)(.*)$")
 # Names whose parts no rule finds.
-BY_HAND = {"at-getD": "at_get_or", "numberOr0": "number_or_0", "any-key": "any_key_lem", "anyKey": "any_key", "place-key": "place_key_lem", "placeKey": "place_key"}
+BY_HAND = {"at-getD": "at_get_or", "numberOr0": "number_or_0", "spelledOr0": "spelled_or_0", "littleEndianOr0": "little_endian_or_0", "any-key": "any_key_lem", "anyKey": "any_key", "place-key": "place_key_lem", "placeKey": "place_key"}
 
 
 def texts(top, endings):

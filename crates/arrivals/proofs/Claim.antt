@@ -15,7 +15,7 @@ use Rattle.stream.specs.Records.{no_counts, admitted_within, admitted}
 use Rattle.stream.proofs.Laws.{admitted_counts}
 use Rattle.stream.specs.declared.Record.{Record}
 use Rattle.stream.specs.Answers.{Answer, id_of}
-use Rattle.table.specs.Table.{Table, holds, place, at, only, number_with, receive, receive_alone}
+use Rattle.table.specs.Table.{Table, holds, place, only, number_with, receive, receive_alone}
 use Rattle.table.proofs.Lengths.{length_receive}
 use Rattle.arrivals.specs.Arrivals.{Arrival, run, run_alone, is_accepted, of_stream, OneStream, StreamRecord, those, answers_to, replay, WithinCap, Counted, Claim}
 use Rattle.table.proofs.Receiving.{number_any}

@@ -41,7 +41,3 @@ module _ {first input d : List ℕ} {s : State} {input' d' : List ℕ} (l : Reco
         failed = λ e. absurd (false≢true (sym e ∙ read));
         written = λ e. (l.room e).written refl;
       }
-
-  pub no_report : is_read s.stage ≡ false → Reports first d (record { stage = s.stage; end = 0 }) d'
-  no_report unread =
-      record { behind = l.listing.behind; text = λ e. absurd (false≢true (sym unread ∙ e)); fits = omega arith; failed = λ _. (refl, unchanged); written = λ e. (l.room e).written refl }

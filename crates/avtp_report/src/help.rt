@@ -1,21 +1,27 @@
 // What the program says of itself.
-use libc::STDERR_FILENO;
+use std::io::Write;
 
-pub(crate) fn show_version() {
-    messages::write(b"avtp_report", b"avtp_report 1.5\n");
+pub(crate) fn show_version(rt: HostRuntime) {
+    messages::write(
+        &mut rt.stdout(),
+        &mut rt.stderr(),
+        b"avtp_report",
+        b"avtp_report 1.5\n",
+    );
 }
 
 // No capture is named, and standard input is a terminal.
-pub(crate) fn show_usage() {
-    io::write_all(
-        STDERR_FILENO,
+pub(crate) fn show_usage(rt: HostRuntime) {
+    let _ = rt.stderr().write_all(
         b"usage: avtp_report [FILE]\n\
         avtp_report --help says more.\n",
     );
 }
 
-pub(crate) fn show_help() {
+pub(crate) fn show_help(rt: HostRuntime) {
     messages::write(
+        &mut rt.stdout(),
+        &mut rt.stderr(),
         b"avtp_report",
         b"usage: avtp_report [FILE]\n\
         \n\

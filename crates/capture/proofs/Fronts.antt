@@ -1,10 +1,10 @@
 -- What stands at the front by the tests on the way, and what each case of it says of the bytes. Assumes nothing.
-use Prim.Native.Nat.{ℕ, zero, suc, ◌+◌, ◌≤◌, ◌<◌}
+use Prim.Native.Nat.{ℕ, zero, suc, ◌+◌, ◌≤◌}
 use mathlib.Core.Path.{◌≡◌, refl, sym}
 use mathlib.Core.Bool.{Bool, true, false, cond}
 use mathlib.Core.List.{List}
 use native.Mathlib.Omega.{arith}
-use borrow.Author.Tests.{lt-ltb, le-ltb, ne_eqb, eqb-true, eqb-false, ltb-false}
+use borrow.Author.Tests.{le-ltb, ne_eqb, eqb-true, eqb-false, ltb-false}
 use lib.Dec.{eqb, ltb}
 use lib.ListN.{length}
 use Rattle.wire.specs.Numbers.{number_or_0, little_endian_or_0}
@@ -19,10 +19,6 @@ body_by one two rest = cond one (arrival (little_endian_or_0 4 8 rest)) (cond tw
 
 -- a length n and a kind k were read, and something is left
 module _ (rest : List ℕ) {n k : ℕ} (some : length rest ≡ 0 → ⊥) (en : n ≡ length_of rest) (ek : k ≡ kind_of rest) where
-  pub short : length rest < 2 + n → cut ≡ entry_of rest
-  unfolding entry_of first_of
-  short h = rw (ne_eqb (length rest) 0 some, ← en, lt-ltb (length rest) (2 + n) h)
-
   module _ (all : 2 + n ≤ length rest) where
     pub wrong : true ≡ wrong_length n k → whole (2 + n) (damaged 42) ≡ entry_of rest
     unfolding entry_of first_of

@@ -1,10 +1,9 @@
 -- Going through a capture in any chunks is going through it whole. Assumes nothing.
-use Prim.Native.Nat.{ℕ, zero, suc, ◌+◌, ◌-◌, ◌≤◌}
+use Prim.Native.Nat.{ℕ, zero, suc, ◌+◌, ◌-◌, ◌≤◌, zero-le}
 use mathlib.Core.Path.{◌≡◌, refl, sym, ap, ◌∙◌}
 use mathlib.Core.Bool.{Bool, true, false, cond}
 use mathlib.Core.List.{List, [], ◌∷◌, ◌++◌, append_assoc, append-nil}
 use native.Mathlib.Omega.{arith}
-use borrow.Author.Rules.{zero≤}
 use borrow.Author.Tests.{eq-eqb, ne_eqb}
 use lib.ListN.{length, take, drop, length-append, length-drop}
 use lib.Seq.{take-append-le, drop-append-le, drop-drop}
@@ -156,7 +155,7 @@ module _ {O S : Type 0} (step : S → List ℕ → Held → O × S) where
   used_some ready left s size held e b (suc k) l z =
       let p = sized left size held e in
       let a = step s (take size left) held in
-      let f = part_end ready (drop size left) k (a.0 ∷ []) (drop size left) a.1 (0, zero≤, refl) in
+      let f = part_end ready (drop size left) k (a.0 ∷ []) (drop size left) a.1 (0, zero-le, refl) in
       let d = length-drop size left in
       let g = end_used (drop size left) (walk_chunk_from step k ready (a.0 ∷ []) (drop size left) a.1).rest f in
       let w : length (walk_chunk_from step k ready (a.0 ∷ []) (drop size left) a.1).rest ≡ length left = rw (b, e) at z in
@@ -206,7 +205,7 @@ module _ {O S : Type 0} (step : S → List ℕ → Held → O × S) where
   left_over : (ready : List O → Bool) (chunk : List ℕ) (s : S)
       → (length (walk_chunk step ready chunk s).rest ≤ length chunk) × (drop (length chunk - length (walk_chunk step ready chunk s).rest) chunk ≡ (walk_chunk step ready chunk s).rest)
   unfolding walk_chunk
-  left_over ready chunk s = end_used chunk _ (part_end ready chunk (length chunk) [] chunk s (0, zero≤, refl))
+  left_over ready chunk s = end_used chunk _ (part_end ready chunk (length chunk) [] chunk s (0, zero-le, refl))
 
   pub in_chunks : InChunks step
   in_chunks =

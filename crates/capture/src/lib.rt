@@ -35,6 +35,7 @@ pub enum Content {
 const LARGEST_LIMIT: u32 = 2_147_483_647;
 
 // Is this length, of what follows in the record, under 2 or wrong for the kind?
+#[tactic(auto, unfolding(crate::specs::Records::wrong_length))]
 fn wrong_length(length: u16, kind: u16) -> bool
     ensures { result ≡ wrong_length length kind }
 {
@@ -54,12 +55,14 @@ fn wrong_length(length: u16, kind: u16) -> bool
 }
 
 // Kind 3 removed a stream: "no longer obeyed" (request #109).
+#[tactic(auto, unfolding(crate::specs::Records::retired_kind))]
 fn retired_kind(kind: u16) -> bool
     ensures { result ≡ retired_kind kind }
 {
     kind == 3
 }
 
+#[tactic(auto, unfolding(crate::specs::Records::unknown_kind))]
 fn unknown_kind(kind: u16) -> bool
     ensures { result ≡ unknown_kind kind }
 {
@@ -94,6 +97,7 @@ fn body(capture: &[u8], kind: u16) -> Content
     Content::Admit { id, limit }
 }
 
+#[tactic(auto, unfolding(crate::specs::Records::entry_of, crate::specs::Records::length_of, crate::specs::Records::kind_of, refusal::specs::Refusals::first_of))]
 pub fn next_record(capture: &[u8]) -> Entry
     ensures { front_of result ≡ entry_of capture.now }
 {
@@ -124,6 +128,7 @@ pub fn next_record(capture: &[u8]) -> Entry
 }
 
 // The frame in a record of kind 1, the part of it behind its arrival time.
+#[tactic(auto, unfolding(crate::specs::Records::frame_in))]
 pub fn frame_in(record: &[u8]) -> &[u8]
     ensures result_value { result.now ≡ frame_in «record».now }
     ensures stands_in { StandsIn «record».entry.ref_ptr 12 result.ref_ptr (12 ≤ length «record».now) }

@@ -10,9 +10,7 @@ use lib.Bits.{bit_and, bit_or}
 use Rattle.wire.specs.Bits.{field}
 use Rattle.wire.proofs.Bits.{joined, mask12}
 use Rattle.refusal.specs.declared.Refusal.{Refusal}
-use Rattle.refusal.specs.declared.Verdict.{Verdict}
-use Rattle.refusal.specs.declared.Verdict.TheVariants as verdict
-use Rattle.refusal.specs.Refusals.{number_of, verdict_number}
+use Rattle.refusal.specs.Refusals.{number_of}
 use Rattle.refusal.proofs.First.{positive}
 use Rattle.frame.specs.declared.layout.Fields.{Fields}
 use Rattle.frame.specs.declared.Reading.{Reading}
@@ -29,28 +27,22 @@ use Rattle.cycle.specs.CycleTime.{tick_in_second, ticks_of, cycle_refusal, syt_r
 use Rattle.cycle.specs.Judgement.{cycle_offset, due_tick, timed_by, untimed, gives_none, JudgementAnswer, refused_with, judged, judgement, judgement_answer}
 use Rattle.cycle.proofs.Range.{parts}
 
-module _ (c : CycleTime) {v : Verdict} (checked : verdict_number v ≡ cycle_refusal c) where
-  number : {r : Refusal} → v ≡ verdict.Refused r → cycle_refusal c ≡ number_of r
-  number z = sym checked ∙ ap verdict_number z
-
-  pub passed : v ≡ verdict.Passed → cycle_refusal c ≡ 0
-  passed z = sym checked ∙ ap verdict_number z
-
-  pub no_time_lem : {r : Refusal} → v ≡ verdict.Refused r → time_answer (instant.Refused r) ≡ time_answered c
+module _ (c : CycleTime) where
+  pub no_time_lem : (r : Refusal) → number_of r ≡ cycle_refusal c → time_answer (instant.Refused r) ≡ time_answered c
   unfolding time_answered
-  no_time_lem {r} z = let p = positive r in rw (number z, p.1)
+  no_time_lem r e = let p = positive r in rw (← e, p.1)
 
-  pub the_time : {n : Nanoseconds} → v ≡ verdict.Passed → n ≡ first_nanosecond (ticks_of c) → time_answer (instant.At n) ≡ time_answered c
+  pub the_time : {n : Nanoseconds} → 0 ≡ cycle_refusal c → n ≡ first_nanosecond (ticks_of c) → time_answer (instant.At n) ≡ time_answered c
   unfolding time_answered
-  the_time z e = rw (passed z, e)
+  the_time z e = rw (← z, e)
 
-  pub no_syt : {r : Refusal} → v ≡ verdict.Refused r → syt_answer (syt.Refused r) ≡ syt_answered c
+  pub no_syt : (r : Refusal) → number_of r ≡ cycle_refusal c → syt_answer (syt.Refused r) ≡ syt_answered c
   unfolding syt_answered
-  no_syt {r} z = let p = positive r in rw (number z, p.1)
+  no_syt r e = let p = positive r in rw (← e, p.1)
 
-  pub the_syt : {n : ℕ} → v ≡ verdict.Passed → n ≡ syt_of c → syt_answer (syt.Value n) ≡ syt_answered c
+  pub the_syt : {n : ℕ} → 0 ≡ cycle_refusal c → n ≡ syt_of c → syt_answer (syt.Value n) ≡ syt_answered c
   unfolding syt_answered
-  the_syt z e = rw (passed z, e)
+  the_syt z e = rw (← z, e)
 
 -- a cycle modulo 16 above an offset of twelve bits
 pub joined_syt : (c : CycleTime) → cycle_refusal c ≡ 0 → bit_or ((c.cycle % 16 * 4096) % 18_446_744_073_709_551_616) c.offset ≡ syt_of c

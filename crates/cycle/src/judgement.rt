@@ -37,6 +37,7 @@ const WRAP: u64 = 49_152;
 const HALF_WRAP: u64 = 24_576;
 
 // Is there nothing to judge by: no CIP header, SYT 0xFFFF, SPH 1, or SID 63?
+#[tactic(auto, unfolding(crate::specs::Judgement::gives_none))]
 fn gives_none(fields: Fields) -> bool
     ensures { result ≡ gives_none fields }
 {

@@ -41,6 +41,7 @@ pub enum Syt {
 }
 
 // The tick within its second.
+#[tactic(auto, unfolding(crate::specs::CycleTime::tick_in_second))]
 pub(crate) fn tick_in_second(time: Nanoseconds) -> Ticks
     ensures { result ≡ tick_in_second time }
 {
@@ -49,6 +50,7 @@ pub(crate) fn tick_in_second(time: Nanoseconds) -> Ticks
 }
 
 // The cycle time of any nanosecond.
+#[tactic(auto, unfolding(crate::specs::CycleTime::cycle_time_of))]
 pub fn to_cycle_time(time: Nanoseconds) -> CycleTime
     ensures { result ≡ cycle_time_of time }
 {
@@ -60,6 +62,7 @@ pub fn to_cycle_time(time: Nanoseconds) -> CycleTime
     }
 }
 
+#[tactic(auto, using(crate::proofs::Range::parts), unfolding(crate::specs::CycleTime::ticks_of))]
 fn ticks_of(time: CycleTime) -> Ticks
     requires { cycle_refusal time ≡ 0 }
     ensures { result ≡ ticks_of time }
@@ -76,6 +79,7 @@ pub fn to_ticks(time: Nanoseconds) -> Ticks
     ticks_of(to_cycle_time(time))
 }
 
+#[tactic(auto, unfolding(refusal::specs::Refusals::first_of, crate::specs::CycleTime::cycle_checks, crate::specs::CycleTime::cycle_refusal))]
 fn check_cycle_time(time: CycleTime) -> Verdict
     ensures { verdict_number result ≡ cycle_refusal time }
 {
@@ -104,6 +108,7 @@ pub fn to_syt(time: CycleTime) -> Syt
 }
 
 // 384 ticks take 15,625 nanoseconds; what is left of a nanosecond counts as a whole one.
+#[tactic(auto, unfolding(crate::specs::CycleTime::first_nanosecond))]
 fn first_nanosecond(ticks: Ticks) -> Nanoseconds
     requires { ticks.0 < 3_145_728_000 }
     ensures { result ≡ first_nanosecond ticks }

@@ -11,12 +11,13 @@
 // way.
 #![tactic(auto)]
 
-ghost use Rattle.std.specs.Prelude.{◌≤◌, ◌<◌};
+ghost use Rattle.std.specs.Prelude.{◌≤◌, ◌<◌, length, IfOk};
 
 use cycle::judgement::{CycleKind, Judgement};
 use cycle::{CycleTime, Instant, Nanoseconds, Syt};
-use libc::{STDIN_FILENO, STDOUT_FILENO};
 use refusal::Refusal;
+use std::io;
+use std::io::Read;
 
 fn put_number(out: &mut [u8], at: usize, name: &[u8], n: u64) -> usize {
     let end = text::put(out, at, name);
@@ -95,12 +96,29 @@ fn put_judgement(out: &mut [u8], at: usize, judgement: Judgement) -> usize {
     }
 }
 
+// The digit of a number below 16.
+fn hex_digit(n: u8) -> u8
+    requires { n < 16 }
+{
+    if n < 10 { b'0' + n } else { b'a' + (n - 10) }
+}
+
+// A number's sixteen hexadecimal digits.
+fn hex(n: u64) -> [u8; 16] {
+    let bytes = n.to_be_bytes();
+    let mut digits = [0u8; 16];
+    for i in 0..8 {
+        digits[2 * i] = hex_digit(bytes[i] / 16);
+        digits[2 * i + 1] = hex_digit(bytes[i] % 16);
+    }
+    digits
+}
+
 // The frame's CIP header, in hexadecimal; zeros where the frame ends before it does.
 fn put_cip(out: &mut [u8], at: usize, frame: &[u8]) -> usize {
-    let mut digits = [0u8; 16];
-    let n = io::hex(wire::be64(frame, 42), 16, &mut digits);
+    let digits = hex(wire::be64(frame, 42));
     let named = text::put(out, at, b" cip=");
-    text::put(out, named, &digits[0..n])
+    text::put(out, named, &digits)
 }
 
 fn answer_frame(out: &mut [u8], arrival_time: u64, frame: &[u8]) -> usize {
@@ -135,13 +153,14 @@ fn answer(out: &mut [u8], question: &[u8]) -> usize {
     }
 }
 
-fn write_answer(question: &[u8]) {
+fn write_answer(rt: HostRuntime, question: &[u8]) -> io::Result<()> {
     let mut out = [0u8; 256];
     let line = answer(&mut out, question);
     let end = text::put(&mut out, line, b"\n");
     if end <= out.len() {
-        io::write_all(STDOUT_FILENO, &out[0..end]);
+        rt.write_all(&out[0..end])?;
     }
+    Ok(())
 }
 
 // The end of the question at a place; the last may be cut short.
@@ -155,26 +174,42 @@ fn end_of(at: usize, len: usize) -> usize
     at + 64
 }
 
-fn answer_all(questions: &[u8]) {
+fn answer_all(rt: HostRuntime, questions: &[u8]) -> io::Result<()> {
     let mut at = 0;
     while at < questions.len() {
         let end = end_of(at, questions.len());
-        write_answer(&questions[at..end]);
+        write_answer(rt, &questions[at..end])?;
         at = end;
     }
+    Ok(())
+}
+
+// Reads until the buffer is full or the input ends, and answers how many bytes stand at the front of it.
+fn read_full(rt: HostRuntime, buffer: &mut [u8]) -> io::Result<usize>
+    ensures { IfOk result (λ n. n ≤ length buffer.new) }
+{
+    let mut input = rt.stdin();
+    let mut done = 0;
+    while done < buffer.len() {
+        let n = input.read(&mut buffer[done..])?;
+        if n == 0 {
+            break;
+        }
+        done += n;
+    }
+    Ok(done)
 }
 
 // The buffer holds whole questions.
-fn main() {
-    let mut questions = io::large_buffer();
+fn main(rt: HostRuntime) -> io::Result<()> {
+    let mut questions = [0u8; 65536];
     // More turns than any input needs: a loop has to end.
-    let mut turns = u64::MAX;
-    while turns > 0 {
-        let n = io::read_full(STDIN_FILENO, &mut questions);
+    for _ in 0..u64::MAX {
+        let n = read_full(rt, &mut questions)?;
         if n == 0 {
-            return;
+            return Ok(());
         }
-        answer_all(&questions[0..n]);
-        turns -= 1;
+        answer_all(rt, &questions[0..n])?;
     }
+    Ok(())
 }

@@ -5,6 +5,7 @@ ghost use Rattle.std.specs.Prelude.{◌≡◌};
 ghost use Rattle.text.specs.InTurn.{PutInTurn};
 ghost use Rattle.formats.specs.Formats.{start_of, hint_of};
 
+use std::io::Write;
 use words::starts_with;
 
 #[derive(Clone, Copy)]
@@ -17,6 +18,7 @@ pub enum Format {
 }
 
 // What a file with these first bytes looks like.
+#[tactic(auto, unfolding(crate::specs::Formats::start_of))]
 pub fn recognise(bytes: &[u8]) -> Format
     ensures { result ≡ start_of bytes.now }
 {
@@ -43,24 +45,33 @@ pub fn recognise(bytes: &[u8]) -> Format
 }
 
 // Says so where a file that is read as a capture looks like something else, as `messages::say` does.
-pub fn hint(room: &mut [u8], program: &[u8], name: &[u8], format: Format) -> usize
+pub fn hint<E: Write>(
+    errors: &mut E,
+    room: &mut [u8],
+    program: &[u8],
+    name: &[u8],
+    format: Format,
+) -> usize
     ensures { PutInTurn room.old 0 (hint_of program.now name.now format) room.new result }
 {
     match format {
         Format::Other => 0,
         Format::Pcap => messages::say(
+            errors,
             room,
             program,
             name,
             b"starts like a pcap file; a capture has a format of its own (see --help)",
         ),
         Format::Pcapng => messages::say(
+            errors,
             room,
             program,
             name,
             b"starts like a pcapng file; a capture has a format of its own (see --help)",
         ),
         Format::Gzip => messages::say(
+            errors,
             room,
             program,
             name,

@@ -1,7 +1,7 @@
 -- What the answer of `read` tells of the frame. Assumes nothing.
 use Prim.Native.Nat.{ℕ, ◌+◌, ◌≤◌, ◌<◌}
 use mathlib.Core.Path.{◌≡◌, refl, sym, ap, ◌∙◌}
-use mathlib.Core.Bool.{false, or_true}
+use mathlib.Core.Bool.{false, or-true}
 use mathlib.Core.List.{List, []}
 use native.Mathlib.Omega.{arith}
 use borrow.Author.Tests.{eq-eqb, ne_eqb, lt-ltb, le-ltb}
@@ -26,7 +26,7 @@ use Rattle.frame.proofs.Groups.{read_then, accepted_room}
 -- there is no data beyond the frame
 pub data_beyond : (frame : List ℕ) (tag n : ℕ) → length frame < 42 + n → [] ≡ data_of frame tag n
 unfolding data_of
-data_beyond frame tag n h = rw (lt-ltb (length frame) (42 + n) h, or_true (ltb n (cip_length (has_cip tag))))
+data_beyond frame tag n h = rw (lt-ltb (length frame) (42 + n) h, or-true (ltb n (cip_length (has_cip tag))))
 
 -- the data of an accepted frame is in it
 data_there : (frame : List ℕ) → refusal frame ≡ 0 → (let s = (fields_of frame).header.stream in DataThere frame s.tag s.data_length)

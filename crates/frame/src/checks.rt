@@ -6,6 +6,7 @@ ghost use Rattle.frame.specs.Checks.{length_checks, ethernet_checks, avtp_checks
 use crate::layout::{Avtp, Cip, Ethernet, Header, Stream};
 use refusal::{Refusal, Verdict};
 
+#[tactic(auto, unfolding(refusal::specs::Refusals::first_of, crate::specs::Checks::length_checks))]
 pub(crate) fn check_length(n: usize) -> Verdict
     ensures { verdict_number result ≡ first_of (length_checks n) }
 {
@@ -18,6 +19,7 @@ pub(crate) fn check_length(n: usize) -> Verdict
     Verdict::Passed
 }
 
+#[tactic(auto, unfolding(refusal::specs::Refusals::first_of, crate::specs::Checks::ethernet_checks))]
 fn check_ethernet(e: Ethernet) -> Verdict
     ensures { verdict_number result ≡ first_of (ethernet_checks e) }
 {
@@ -33,6 +35,7 @@ fn check_ethernet(e: Ethernet) -> Verdict
     Verdict::Passed
 }
 
+#[tactic(auto, unfolding(refusal::specs::Refusals::first_of, crate::specs::Checks::avtp_checks))]
 fn check_avtp(a: Avtp) -> Verdict
     ensures { verdict_number result ≡ first_of (avtp_checks a) }
 {
@@ -58,6 +61,7 @@ pub fn misaddressed(destination: u64, source: u64) -> bool
     !((destination >> 40) & 0x1 == 1) | ((source >> 40) & 0x1 == 1)
 }
 
+#[tactic(auto, unfolding(refusal::specs::Refusals::first_of, crate::specs::Checks::address_checks))]
 fn check_addresses(e: Ethernet) -> Verdict
     ensures { verdict_number result ≡ first_of (address_checks e) }
 {
@@ -67,6 +71,7 @@ fn check_addresses(e: Ethernet) -> Verdict
     Verdict::Passed
 }
 
+#[tactic(auto, unfolding(refusal::specs::Refusals::first_of, crate::specs::Checks::stream_checks))]
 fn check_stream(n: usize, s: Stream) -> Verdict
     requires { 42 ≤ n }
     ensures { verdict_number result ≡ first_of (stream_checks n s) }
@@ -98,6 +103,7 @@ pub fn partial_block(n: usize, dbs: u8) -> bool
     n % block_bytes(dbs) != 0
 }
 
+#[tactic(auto, unfolding(refusal::specs::Refusals::first_of, crate::specs::Checks::block_checks))]
 pub(crate) fn check_blocks(s: Stream, c: Cip) -> Verdict
     requires { 8 ≤ s.data_length }
     ensures { verdict_number result ≡ first_of (block_checks s c) }

@@ -3,96 +3,97 @@
 // fewer. A line that starts with `#` is printed as it stands.
 #![tactic(auto)]
 
-ghost use Rattle.std.specs.Prelude.{◌≤◌, ◌<◌, length};
+ghost use Rattle.std.specs.Prelude.{◌≤◌, ◌<◌, length, IfOk};
 
 use frame::Reading;
 use frame::layout::{Avtp, Cip, Ethernet, Stream};
-use libc::STDOUT_FILENO;
+use std::io;
+use std::io::Read;
 
-fn text(bytes: &[u8]) {
-    io::write_all(STDOUT_FILENO, bytes);
+fn text(rt: HostRuntime, bytes: &[u8]) -> io::Result<()> {
+    rt.write_all(bytes)
 }
 
-fn number(name: &[u8], n: u64) {
-    text(name);
-    io::print_decimal(STDOUT_FILENO, n);
+fn number(rt: HostRuntime, name: &[u8], n: u64) -> io::Result<()> {
+    text(rt, name)?;
+    print!(rt; "{n}")
 }
 
-fn hex(name: &[u8], n: u64, digits: usize) {
-    text(name);
-    io::print_hex(STDOUT_FILENO, n, digits);
+fn hex(rt: HostRuntime, name: &[u8], n: u64, digits: usize) -> io::Result<()> {
+    text(rt, name)?;
+    print!(rt; "{n:0digits$x}")
 }
 
-fn bit(name: &[u8], b: bool) {
-    number(name, if b { 1 } else { 0 });
+fn bit(rt: HostRuntime, name: &[u8], b: bool) -> io::Result<()> {
+    number(rt, name, if b { 1 } else { 0 })
 }
 
-fn show_ethernet(e: Ethernet) {
-    hex(b" destination=", e.destination, 12);
-    hex(b" source=", e.source, 12);
-    hex(b" tpid=", e.tpid as u64, 4);
-    number(b" pcp=", e.pcp as u64);
-    bit(b" cfi=", e.cfi);
-    number(b" vid=", e.vid as u64);
-    hex(b" ethertype=", e.ethertype as u64, 4);
+fn show_ethernet(rt: HostRuntime, e: Ethernet) -> io::Result<()> {
+    hex(rt, b" destination=", e.destination, 12)?;
+    hex(rt, b" source=", e.source, 12)?;
+    hex(rt, b" tpid=", e.tpid as u64, 4)?;
+    number(rt, b" pcp=", e.pcp as u64)?;
+    bit(rt, b" cfi=", e.cfi)?;
+    number(rt, b" vid=", e.vid as u64)?;
+    hex(rt, b" ethertype=", e.ethertype as u64, 4)
 }
 
-fn show_avtp(a: Avtp) {
-    bit(b" cd=", a.cd);
-    number(b" subtype=", a.subtype as u64);
-    bit(b" sv=", a.sv);
-    number(b" version=", a.version as u64);
-    bit(b" mr=", a.mr);
-    bit(b" gv=", a.gv);
-    bit(b" tv=", a.tv);
-    number(b" sequence=", a.sequence as u64);
-    bit(b" tu=", a.tu);
+fn show_avtp(rt: HostRuntime, a: Avtp) -> io::Result<()> {
+    bit(rt, b" cd=", a.cd)?;
+    number(rt, b" subtype=", a.subtype as u64)?;
+    bit(rt, b" sv=", a.sv)?;
+    number(rt, b" version=", a.version as u64)?;
+    bit(rt, b" mr=", a.mr)?;
+    bit(rt, b" gv=", a.gv)?;
+    bit(rt, b" tv=", a.tv)?;
+    number(rt, b" sequence=", a.sequence as u64)?;
+    bit(rt, b" tu=", a.tu)
 }
 
-fn show_stream(s: Stream) {
-    hex(b" id=", s.id, 16);
-    number(b" timestamp=", s.timestamp as u64);
-    hex(b" gateway_info=", s.gateway_info as u64, 8);
-    number(b" stream_data_length=", s.data_length as u64);
-    number(b" tag=", s.tag as u64);
-    number(b" channel=", s.channel as u64);
-    number(b" sy=", s.sy as u64);
+fn show_stream(rt: HostRuntime, s: Stream) -> io::Result<()> {
+    hex(rt, b" id=", s.id, 16)?;
+    number(rt, b" timestamp=", s.timestamp as u64)?;
+    hex(rt, b" gateway_info=", s.gateway_info as u64, 8)?;
+    number(rt, b" stream_data_length=", s.data_length as u64)?;
+    number(rt, b" tag=", s.tag as u64)?;
+    number(rt, b" channel=", s.channel as u64)?;
+    number(rt, b" sy=", s.sy as u64)
 }
 
-fn show_cip(c: Cip) {
-    number(b" sid=", c.sid as u64);
-    number(b" dbs=", c.dbs as u64);
-    number(b" fn=", c.fraction_number as u64);
-    number(b" qpc=", c.qpc as u64);
-    bit(b" sph=", c.sph);
-    number(b" dbc=", c.dbc as u64);
-    number(b" fmt=", c.fmt as u64);
-    number(b" fdf=", c.fdf as u64);
-    hex(b" low_half=", c.low_half as u64, 4);
+fn show_cip(rt: HostRuntime, c: Cip) -> io::Result<()> {
+    number(rt, b" sid=", c.sid as u64)?;
+    number(rt, b" dbs=", c.dbs as u64)?;
+    number(rt, b" fn=", c.fraction_number as u64)?;
+    number(rt, b" qpc=", c.qpc as u64)?;
+    bit(rt, b" sph=", c.sph)?;
+    number(rt, b" dbc=", c.dbc as u64)?;
+    number(rt, b" fmt=", c.fmt as u64)?;
+    number(rt, b" fdf=", c.fdf as u64)?;
+    hex(rt, b" low_half=", c.low_half as u64, 4)
 }
 
-fn show_payload(tag: u8, payload: &[u8], dbs: u8) {
-    number(b" payload=", payload.len() as u64);
-    number(b" blocks=", frame::blocks(tag, payload, dbs) as u64);
-    hex(b" first=", wire::be32(payload, 0) as u64, 8);
+fn show_payload(rt: HostRuntime, tag: u8, payload: &[u8], dbs: u8) -> io::Result<()> {
+    number(rt, b" payload=", payload.len() as u64)?;
+    number(rt, b" blocks=", frame::blocks(tag, payload, dbs) as u64)?;
+    hex(rt, b" first=", wire::be32(payload, 0) as u64, 8)
 }
 
-fn show(bytes: &[u8]) {
+fn show(rt: HostRuntime, bytes: &[u8]) -> io::Result<()> {
     match frame::read(bytes) {
         Reading::Refused(refusal) => {
-            number(b"refused ", refusal::number(refusal) as u64);
+            number(rt, b"refused ", refusal::number(refusal) as u64)?;
         }
         Reading::Accepted(f) => {
-            text(b"accepted");
+            text(rt, b"accepted")?;
             let h = f.header;
-            show_ethernet(h.ethernet);
-            show_avtp(h.avtp);
-            show_stream(h.stream);
-            show_cip(f.cip);
-            show_payload(h.stream.tag, frame::payload(bytes), f.cip.dbs);
+            show_ethernet(rt, h.ethernet)?;
+            show_avtp(rt, h.avtp)?;
+            show_stream(rt, h.stream)?;
+            show_cip(rt, f.cip)?;
+            show_payload(rt, h.stream.tag, frame::payload(bytes), f.cip.dbs)?;
         }
     }
-    text(b"\n");
+    text(rt, b"\n")
 }
 
 fn digit(c: u8) -> u8
@@ -126,26 +127,23 @@ fn decode(line: &[u8], out: &mut [u8]) -> usize
     ensures { result ≤ length out.old }
 {
     let count = least(line.len() / 2, out.len());
-    let mut n = 0;
-    while n < count {
+    for n in 0..count {
         out[n] = pair(line[2 * n], line[2 * n + 1]);
-        n += 1;
     }
     count
 }
 
-fn show_line(line: &[u8]) {
+fn show_line(rt: HostRuntime, line: &[u8]) -> io::Result<()> {
     if line.len() == 0 {
-        return;
+        return Ok(());
     }
     if line[0] == b'#' {
-        text(line);
-        text(b"\n");
-        return;
+        text(rt, line)?;
+        return text(rt, b"\n");
     }
     let mut bytes = [0u8; 2048];
     let n = decode(line, &mut bytes);
-    show(&bytes[0..n]);
+    show(rt, &bytes[0..n])
 }
 
 // The place of the first line feed from `at` on, or the end.
@@ -160,17 +158,34 @@ fn line_end(input: &[u8], at: usize) -> usize
     end
 }
 
-fn show_lines(input: &[u8]) {
+fn show_lines(rt: HostRuntime, input: &[u8]) -> io::Result<()> {
     let mut at = 0;
     while at < input.len() {
         let end = line_end(input, at);
-        show_line(&input[at..end]);
+        show_line(rt, &input[at..end])?;
         at = end + 1;
     }
+    Ok(())
 }
 
-fn main() {
-    let mut input = io::large_buffer();
-    let n = io::read_full(libc::STDIN_FILENO, &mut input);
-    show_lines(&input[..n]);
+// Reads until the buffer is full or the input ends, and answers how many bytes stand at the front of it.
+fn read_full(rt: HostRuntime, buffer: &mut [u8]) -> io::Result<usize>
+    ensures { IfOk result (λ n. n ≤ length buffer.new) }
+{
+    let mut input = rt.stdin();
+    let mut done = 0;
+    while done < buffer.len() {
+        let n = input.read(&mut buffer[done..])?;
+        if n == 0 {
+            break;
+        }
+        done += n;
+    }
+    Ok(done)
+}
+
+fn main(rt: HostRuntime) -> io::Result<()> {
+    let mut input = [0u8; 65536];
+    let n = read_full(rt, &mut input)?;
+    show_lines(rt, &input[..n])
 }

@@ -1,57 +1,15 @@
 -- What reading behind some bytes leaves. Assumes nothing.
 use Prim.Native.Nat.{ℕ, ◌+◌, ◌-◌, ◌≤◌, ◌<◌}
-use mathlib.Core.Path.{◌≡◌, refl, sym, ap, ◌∙◌, subst}
+use mathlib.Core.Path.{◌≡◌, refl, sym, ap, ◌∙◌}
 use mathlib.Core.Bool.{Bool, true, false, cond}
-use mathlib.Core.List.{List, []}
+use mathlib.Core.List.{List}
 use native.Mathlib.Omega.{arith}
-use borrow.Author.Tests.{ltb-true, ltb-false, leb-true, leb-false}
-use borrow.Rule.Slice.PartMut.{put_mid, take_put}
-use lib.Dec.{T, ltb, leb}
-use lib.IntN.{ℤ, pos}
-use lib.ListN.{length, take, drop, length-drop, drop_of_length-le}
-use lib.Signed.{lt_z}
-use lib.Seq.{sets, sets-eq, length-sets, length-take-le, take_all, take-nil, take_at}
+use borrow.Author.Tests.{leb-true, leb-false}
+use lib.Dec.{leb}
+use lib.ListN.{length, take, drop, length-drop}
+use lib.Seq.{sets, sets-eq, length-sets, length-take-le, take_all, take_at}
 use Rattle.input.specs.declared.Filled.{Filled}
-use Rattle.input.specs.declared.Source.{Source}
-use Rattle.input.specs.declared.Source.TheVariants.{Open, Ended, Failed}
-use Rattle.input.specs.Input.{source_by, is_open, between, ReadBehind}
-
--- what a source says of what came
-by_source : (got : ℤ) (n : ℕ) → is_open (source_by got n) ≡ ltb 0 n
-by_source got n = go (ltb 0 n) (lt_z got (pos 0))
-  where
-    go : (some below : Bool) → is_open (cond some Open (cond below Failed Ended)) ≡ some
-    go true below = refl
-    go false true = refl
-    go false false = refl
-
--- so many bytes came into the part behind the first ones
-pub came : (d ys : List ℕ) (have n : ℕ) (got : ℤ) (s : Source) → have < length d → length (put_mid have (length d - have) d ys) ≡ length d → n ≤ length d - have → s ≡ source_by got n
-    → ReadBehind (take have d) d (put_mid have (length d - have) d ys) (record { end = have + n; source = s })
-came d ys have n got s h size few is =
-    let l : length (take have d) ≡ have = length-take-le have d (omega arith) in
-    let o : is_open s ≡ ltb 0 n = ap is_open is ∙ by_source got n in
-    record {
-      kept = rw l (take_put have (length d - have) d ys (omega arith));
-      size = size;
-      within = omega arith;
-      more = λ e. rw l (omega (arith, ltb-true 0 n (sym o ∙ e)));
-      shut = λ e. rw l (omega (arith, ltb-false 0 n (sym o ∙ e)));
-      ended = λ e. rw l h;
-    }
-
--- there is no room behind them
-pub none_came : (d : List ℕ) (have : ℕ) → length d ≤ have → ReadBehind (take have d) d d (record { end = length d; source = Failed })
-none_came d have h =
-    let all : take have d ≡ d = take_all have d h in
-    record {
-      kept = rw all (take_all (length d) d (omega arith));
-      size = refl;
-      within = omega arith;
-      more = λ e. absurd (subst T (sym e) tt);
-      shut = λ e. rw all;
-      ended = λ e. absurd (subst T (sym e) tt);
-    }
+use Rattle.input.specs.Input.{is_open, between, ReadBehind}
 
 -- ---- The bytes between two places
 
@@ -69,12 +27,6 @@ module _ (from have : ℕ) (d : List ℕ) where
 
   pub end_within : end ≤ length d
   end_within = by_end (λ h e. rw e h) (λ h e. omega (arith, e))
-
-  pub none_between : end < from → between from have d ≡ []
-  none_between h =
-      by_end
-      (λ g e. let z : have - from ≡ 0 = omega (arith, e) in ap (λ (n : ℕ). take n (drop from d)) z)
-      (λ g e. ap (λ (x : List ℕ). take (have - from) x) (drop_of_length-le d {i = from} (omega (arith, e))) ∙ take-nil (have - from))
 
   pub up_to_end : between from end d ≡ between from have d
   up_to_end =

@@ -1,6 +1,5 @@
 -- A buffer that holds what was read and is not used yet, between two places.
-use Rattle.std.specs.Prelude.{ℕ, ◌-◌, ◌≤◌, ◌<◌, ◌≡◌, Bool, true, false, cond, List, ltb, ℤ, pos, length, take}
-use Rattle.std.specs.Int.Signed.{lt_z}
+use Rattle.std.specs.Prelude.{ℕ, ◌-◌, ◌≤◌, ◌<◌, ◌≡◌, Bool, true, false, cond, List, ltb, Result, Ok, Err, length, take}
 use Rattle.wire.specs.Numbers.{part}
 use Rattle.input.specs.declared.Source.{Source}
 use Rattle.input.specs.declared.Source.TheVariants.{Open, Ended, Failed}
@@ -8,9 +7,10 @@ use Rattle.input.specs.declared.Filled.{Filled}
 
 -- ---- What became of an input
 
--- by what a read answered, which is below 0 where it failed, and how many bytes came
-abbrev pub source_by : ℤ → ℕ → Source
-source_by got n = cond (ltb 0 n) Open (cond (lt_z got (pos 0)) Failed Ended)
+-- by what a read answered: how many bytes came, or why it failed
+abbrev pub source_by : {E : Type 0} → Result ℕ E → Source
+source_by (Ok n) = cond (ltb 0 n) Open Ended
+source_by (Err e) = Failed
 
 -- may more come?
 abbrev pub is_open : Source → Bool

@@ -1,9 +1,14 @@
 // A program's input: a buffer that holds what was read and is not used yet, between two places.
 #![tactic(auto)]
 
+pub mod opening;
+
 ghost use Rattle.std.specs.Prelude.{◌≡◌, ◌-◌, ◌≤◌, cond, leb, length, take};
 ghost use Rattle.std.proofs.lemmas.List.Edits.{sets};
 ghost use Rattle.input.specs.Input.{is_open, has_failed, source_by, between, ReadBehind, First};
+
+use std::io;
+use std::io::Read;
 
 // What became of the input.
 #[derive(Clone, Copy)]
@@ -42,21 +47,19 @@ fn move_down(input: &mut [u8], from: usize, have: usize) -> usize
     i - from
 }
 
-// What became of the input, by what a read answered and how many bytes came.
-fn source_after(got: isize, n: usize) -> Source
-    ensures { result ≡ source_by got n }
+// What became of the input, by what a read answered.
+fn source_after(got: io::Result<usize>) -> Source
+    ensures { result ≡ source_by got }
 {
-    if n > 0 {
-        return Source::Open;
+    match got {
+        Ok(0) => Source::Ended,
+        Ok(_) => Source::Open,
+        Err(_) => Source::Failed,
     }
-    if got < 0 {
-        return Source::Failed;
-    }
-    Source::Ended
 }
 
 // Reads more behind the first bytes.
-pub fn fill(fd: i32, input: &mut [u8], have: usize) -> Filled
+pub fn fill<R: Read>(reader: &mut R, input: &mut [u8], have: usize) -> Filled
     ensures { ReadBehind (take have input.old) input.old input.new result }
 {
     if have >= input.len() {
@@ -66,11 +69,11 @@ pub fn fill(fd: i32, input: &mut [u8], have: usize) -> Filled
         };
     }
     let behind = &mut input[have..];
-    let got = libc::read(fd, behind);
-    let n = io::count(got, behind);
+    let got = reader.read(behind);
+    let n = got.unwrap_or(0);
     Filled {
         end: have + n,
-        source: source_after(got, n),
+        source: source_after(got),
     }
 }
 
@@ -82,15 +85,15 @@ pub fn least(a: usize, b: usize) -> usize
 }
 
 // Moves the bytes between two places to the front, and reads more behind them.
-pub fn refill(fd: i32, input: &mut [u8], from: usize, have: usize) -> Filled
+pub fn refill<R: Read>(reader: &mut R, input: &mut [u8], from: usize, have: usize) -> Filled
     ensures { ReadBehind (between from have input.old) input.old input.new result }
 {
     let end = least(have, input.len());
     if from > end {
-        return fill(fd, input, 0);
+        return fill(reader, input, 0);
     }
     let left = move_down(input, from, end);
-    fill(fd, input, left)
+    fill(reader, input, left)
 }
 
 // May more come?
@@ -115,10 +118,10 @@ pub fn has_failed(source: Source) -> bool
 }
 
 // Reads the first bytes of an input: at least as many as are wanted, where it has them.
-pub fn first(fd: i32, input: &mut [u8], wanted: usize) -> Filled
+pub fn first<R: Read>(reader: &mut R, input: &mut [u8], wanted: usize) -> Filled
     ensures { First wanted input.old input.new result }
 {
-    let mut filled = fill(fd, input, 0);
+    let mut filled = fill(reader, input, 0);
     loop {
         let have = filled.end;
         let source = filled.source;
@@ -128,6 +131,6 @@ pub fn first(fd: i32, input: &mut [u8], wanted: usize) -> Filled
         if !is_open(source) {
             return filled;
         }
-        filled = fill(fd, input, have);
+        filled = fill(reader, input, have);
     }
 }

@@ -4,7 +4,7 @@ use borrow.Author.Tests.{eqb-false}
 use Rattle.capture.specs.Records.{damaged}
 use Rattle.capture.specs.Walk.{ChunkWalk, walk}
 use Rattle.capture.specs.InChunks as walked
-use Rattle.capture.proofs.InChunks.{in_chunks as walked-in-chunks}
+use Rattle.capture.proofs.InChunks.{in_chunks as walked_in_chunks}
 use Rattle.stream.specs.Records.{unused}
 use Rattle.table.specs.Table.{Table}
 use Rattle.lines.specs.Lines.{start_line, end_line, ending}
@@ -71,7 +71,7 @@ module _ (shown : Bool) (cs : List LentChunk) (room : ℕ) (fits : roomy room 0 
       let e = end_by p.said p.rest p.state (eqb (length p.rest) 0) refl in
       let w : visit (capture_of cs) ≡ all p.said p.rest p.state (eqb (length p.rest) 0) =
       ap (λ (l : List ℕ). walk step l (replicate 64 unused)) (same_capture shown cs)
-      ∙ (walked-in-chunks step).whole_capture (map (room_for shown) cs) (replicate 64 unused) (λ said. roomy room (length (lines_after shown (number_after 0 p.said) said))) fits z in
+      ∙ (walked_in_chunks step).whole_capture (map (room_for shown) cs) (replicate 64 unused) (λ said. roomy room (length (lines_after shown (number_after 0 p.said) said))) fits z in
       record {
         listed = λ on.
             ap (λ (x : List Said × Table). start_line ++ (lines_after true 0 x.0 ++ end_line (number_after 0 x.0))) w ∙ ap (λ (l : List ℕ). start_line ++ l) e.0
@@ -85,4 +85,4 @@ module _ (shown : Bool) (cs : List LentChunk) (room : ℕ) (fits : roomy room 0 
   whole_capture = subst At (sym (listed_chunks shown cs (walked.unread (replicate 64 unused)))) at_end
 
 pub in_chunks : ListedInChunks
-in_chunks = record { whole_capture = whole_capture; walked = walked-in-chunks step }
+in_chunks = record { whole_capture = whole_capture; walked = walked_in_chunks step }

@@ -1,291 +1,144 @@
 -- A chunk turn by turn: what is left from here gives what the whole gives. Assumes nothing.
-use Rattle.std.proofs.Common.{◌≡◌, ℕ, suc, ◌+◌, ◌-◌, ◌^◌, ◌<◌, ◌≤◌, Bool, true, false, cond, T, List, [], ◌∷◌, ◌++◌, length, take, drop, sym, refl, ap, ◌∙◌, subst, arith, length-append, length-drop, drop-drop}
+use Rattle.std.proofs.Common.{◌≡◌, ℕ, zero, suc, ◌+◌, ◌-◌, ◌<◌, ◌≤◌, Bool, true, false, cond, List, [], ◌∷◌, ◌++◌, length, take, drop, sym, refl, ap, ◌∙◌, subst, arith, length-append, length-drop, drop-drop}
 use lib.Seq.{sets, length-sets}
 use Rattle.wire.specs.Numbers.{part}
 use Rattle.capture.specs.Records.{Held, Front, end, cut, whole, entry_of}
-use Rattle.capture.specs.Sizes.{Within}
 use Rattle.capture.specs.Walk.{ChunkWalk, walk_chunk_by, walk_chunk_from, walk_chunk}
 use Rattle.capture.proofs.Fronts.{sized}
-use Rattle.capture.proofs.InChunks.{in_chunks as walked-in-chunks}
+use Rattle.capture.proofs.InChunks.{in_chunks as walked_in_chunks}
 use Rattle.table.specs.Table.{Table}
-use Rattle.lines.specs.Lines.{Line, next_number, line_text}
+use Rattle.lines.specs.declared.Outcome.{Outcome}
+use Rattle.lines.specs.Lines.{line_of, next_number, line_text}
 use Rattle.lines.specs.Placing.{roomy}
 use Rattle.text.proofs.Sets.{sets_append}
-use Rattle.listing.specs.declared.chunk.Progress.{Progress}
 use Rattle.listing.specs.declared.chunk.Cursor.{Cursor}
 use Rattle.listing.specs.Listing.{Said, step, if_shown, lines_after, number_after}
-use Rattle.listing.specs.Chunks.{chunked, ChunkListed}
-use Rattle.listing.specs.Private.{size_ahead, held_ahead, halted, passed, put_whole, put_next}
+use Rattle.listing.specs.Chunks.{chunked}
+use Rattle.listing.specs.Private.{size_ahead, held_ahead, Obeyed, halted, passed, put_whole, put_next, Becomes}
 use Rattle.listing.proofs.Lines.{lines_more, number_more}
-use Rattle.listing.proofs.Obeying.{length_after}
 
--- a chunk under way: what has been said of it, the bytes that remain of it, the table, and whether there may be more
-pub record Run : Type 0 where
-  pub said : List Said
-  pub rest : List ℕ
-  pub table : Table
-  pub going : Bool
-
-abbrev stopped : Run → Run
-stopped r = record { said = r.said; rest = r.rest; table = r.table; going = false }
-
-abbrev stop : Run → ChunkWalk Said Table
-stop r = record { said = r.said; rest = r.rest; state = r.table }
+-- the turns that are left, where there may be more
+abbrev pub turns_left : List ℕ → Cursor → ℕ
+turns_left chunk c = cond c.going (suc (length chunk - c.at)) 0
 
 module _ (shown : Bool) (chunk : List ℕ) (t : Table) (n : ℕ) (d : List ℕ) where
-  -- the cursor of a run, what is answered at its end, and the output
-  abbrev pub cursor_of : Run → Cursor
-  cursor_of r = record { at = length chunk - length r.rest; put = length (lines_after shown n r.said); records = number_after n r.said; going = r.going }
-
-  abbrev pub progress_of : Run → Progress
-  progress_of r = record { at = length chunk - length r.rest; put = length (lines_after shown n r.said); records = number_after n r.said }
-
-  abbrev pub out_of : Run → List ℕ
-  out_of r = sets d 0 (lines_after shown n r.said)
-
-  abbrev pub start : Run
-  start = record { said = []; rest = chunk; table = t; going = true }
-
   abbrev ready : List Said → Bool
   ready said = roomy (length d) (length (lines_after shown n said))
 
-  -- what a run comes to, with at most k records more
-  abbrev in_turns : ℕ → Run → ChunkWalk Said Table
-  in_turns k r = cond r.going (walk_chunk_from step k ready r.said r.rest r.table) (stop r)
+  abbrev stop : List Said → List ℕ → Table → ChunkWalk Said Table
+  stop said rest t' = record { said = said; rest = rest; state = t' }
 
-  pub record Shape (k : ℕ) (r : Run) : Type 0 where
-    pub rest : r.rest ≡ drop (length chunk - length r.rest) chunk
-    pub within : length r.rest ≤ length chunk
-    pub table : length r.table ≡ length t
-    pub fuel : r.going ≡ true → length r.rest < k
-    pub records : number_after n r.said < 2 ^ 64
+  -- what it comes to from a place in the chunk, with what has been said so far
+  abbrev onward : Bool → List Said → List ℕ → Table → ChunkWalk Said Table
+  onward going said rest t' = cond going (walk_chunk_from step (length rest) ready said rest t') (stop said rest t')
 
-  -- a run with k turns left
-  pub record Under (k : ℕ) (r : Run) : Type 0 where
-    pub shape : Shape k r
-    pub onward : in_turns k r ≡ chunked shown chunk t n (length d)
-    pub put : length (lines_after shown n r.said) ≤ length d
+  -- the chunk is listed as far as the cursor c says, the table is t' by then, and the output d'
+  pub record Going (c : Cursor) (t' : Table) (d' : List ℕ) : Type 0 where
+    pub said : List Said
+    pub walked : onward c.going said (drop c.at chunk) t' ≡ chunked shown chunk t n (length d)
+    pub at : c.at ≤ length chunk
+    pub put : c.put ≡ length (lines_after shown n said)
+    pub records : c.records ≡ number_after n said
+    pub out : d' ≡ sets d 0 (lines_after shown n said)
 
-  pub starts : n < 2 ^ 64 → Under (suc (length chunk)) start
+  pub begun : Going (record { at = 0; put = 0; records = n; going = true }) t d
   unfolding chunked walk_chunk lines_after number_after
-  starts fits =
-      record {
-        shape = record { rest = ap (λ (k : ℕ). drop k chunk) none; within = omega arith; table = refl; fuel = λ _. omega arith; records = fits };
-        onward = (walked-in-chunks step).every_whole_record ready (suc (length chunk)) (length chunk) [] chunk t (omega arith) (omega arith);
-        put = omega arith;
-      }
-    where
-      none : 0 ≡ length chunk - length chunk
-      none = omega arith
+  begun = record { said = []; walked = refl; at = omega arith; put = refl; records = refl; out = refl }
 
-  pub first_cursor : record { at = 0; put = 0; records = n; going = true } ≡ cursor_of start
-  unfolding lines_after number_after
-  first_cursor = λ i. record { at = none i; put = 0; records = n; going = true }
-    where
-      none : 0 ≡ length chunk - length chunk
-      none = omega arith
+  module _ (c : Cursor) (t' : Table) (d' : List ℕ) (g : Going c t' d') (on : c.going ≡ true) where
+    abbrev rest : List ℕ
+    rest = drop c.at chunk
 
-  -- ---- the end
-  stands : (k : ℕ) (r : Run) → r.going ≡ false → stop r ≡ in_turns k r
-  stands k r e = rw e
+    abbrev line_after : Said → List ℕ
+    line_after x = if_shown shown (line_text (next_number c.records) x.line)
 
-  pub ends : (k : ℕ) (r : Run) → Under k r → r.going ≡ false → ChunkListed shown chunk t n d (progress_of r) r.table (out_of r)
-  ends k r u e =
-      record {
-        at = ap (λ (x : ChunkWalk Said Table). length chunk - length x.rest) all;
-        put = ap (λ (x : ChunkWalk Said Table). length (lines_after shown n x.said)) all;
-        records = ap (λ (x : ChunkWalk Said Table). number_after n x.said) all;
-        table = ap (λ (x : ChunkWalk Said Table). x.state) all;
-        out = ap (λ (x : ChunkWalk Said Table). sets d 0 (lines_after shown n x.said)) all;
-        at_within = omega arith;
-        put_within = u.put;
-      }
-    where
-      all : stop r ≡ chunked shown chunk t n (length d)
-      all = stands k r e ∙ u.onward
+    -- what is said of what stands at the front, and the table then
+    abbrev says : Front → Said × Table
+    says f = step t' (take (size_ahead f) rest) (held_ahead f)
 
-  -- ---- one turn
-  abbrev turn_by : Front → Run → Run
-  turn_by end r = stopped r
-  turn_by cut r = stopped r
-  turn_by (whole size held) r =
-      let a = step r.table (take size r.rest) held in
-      record { said = r.said ++ (a.0 ∷ []); rest = drop size r.rest; table = a.1; going = true }
+    abbrev puts : Front → Cursor × List ℕ
+    puts f = put_next f (line_after (says f).0) c d'
 
-  module _ (k : ℕ) (r : Run) (u : Shape (suc k) r) where
-    abbrev c : Cursor
-    c = cursor_of r
+    -- a record of so many bytes is passed, and leaves this table, cursor and output
+    record Turned (size : ℕ) (z : Table) (p : Cursor × List ℕ) : Type 0 where
+      pub fits : c.at + size ≤ length chunk
+      pub goes : Going p.0 z p.1
+      pub falls : turns_left chunk p.0 < turns_left chunk c
 
-    abbrev after : Bool → Front → Run
-    after b f = cond b (turn_by f r) (stopped r)
+    same_ready : roomy (length d') c.put ≡ ready g.said
+    same_ready = let l = length-sets d 0 (lines_after shown n g.said) in cc
 
-    abbrev ahead : Bool → Front → Front
-    ahead b f = cond b f end
+    going_on : walk_chunk_from step (length rest) ready g.said rest t' ≡ chunked shown chunk t n (length d)
+    going_on = rw on at g.walked
 
-    abbrev text_of : Line → List ℕ
-    text_of line = if_shown shown (line_text (next_number (number_after n r.said)) line)
+    -- where nothing is listed
+    abbrev Stands : Type 0
+    Stands = (walk : List Said → List ℕ → Table → ChunkWalk Said Table) → stop g.said rest t' ≡ cond (ready g.said) (walk_chunk_by step walk g.said rest t' (entry_of rest)) (stop g.said rest t')
 
-    -- what is said of the record, and the table afterwards
-    abbrev stepped : Front → Said × Table
-    stepped f = step r.table (take (size_ahead f) r.rest) (held_ahead f)
+    stands : Stands → (k : ℕ) → stop g.said rest t' ≡ walk_chunk_from step k ready g.said rest t'
+    unfolding walk_chunk_from
+    stands h zero = refl
+    stands h (suc k) = h (walk_chunk_from step k ready)
 
-    -- a turn: what is put, the table that is left and the size of the record are those of the run afterwards
-    record Turned (given : Cursor × List ℕ) (left : Table) (size : ℕ) (then : Run) : Type 0 where
-      cursor : given.0 ≡ cursor_of then
-      out : given.1 ≡ out_of then
-      table : left ≡ then.table
-      shape : Shape k then
-      fits : c.at + size ≤ length chunk
-
-    -- nothing is listed, and the run stops
-    stops : Turned (halted c, out_of r) r.table 0 (stopped r)
-    stops =
+    stops : Stands → Turned 0 t' (halted c, d')
+    stops h =
         record {
-          cursor = refl;
-          out = refl;
-          table = refl;
-          shape = record { rest = u.rest; within = u.within; table = u.table; fuel = λ e. absurd (subst T (sym e) tt); records = u.records };
           fits = omega arith;
+          goes = record { said = g.said; walked = stands h (length rest) ∙ going_on; at = g.at; put = g.put; records = g.records; out = g.out };
+          falls = rw on (omega arith);
         }
 
     -- a record that is whole
-    module _ (size : ℕ) (w : Within r.rest size) (x : Said) (z : Table) (same : length z ≡ length r.table) (roomy-here : ready r.said ≡ true) (on : r.going ≡ true) where
-      abbrev text : List ℕ
-      text = text_of x.line
+    module _ (size : ℕ) (held : Held) (room : ready g.said ≡ true) (e : entry_of rest ≡ whole size held) where
+      abbrev x : Said
+      x = (says (whole size held)).0
 
-      abbrev gone : Run
-      gone = record { said = r.said ++ (x ∷ []); rest = drop size r.rest; table = z; going = true }
+      abbrev gone : List Said
+      gone = g.said ++ (x ∷ [])
 
-      left : length (drop size r.rest) ≡ length r.rest - size
-      left = length-drop size r.rest
+      walks : (k : ℕ) → length rest ≡ k → walk_chunk_from step k ready g.said rest t' ≡ walk_chunk_from step (length (drop size rest)) ready gone (drop size rest) (says (whole size held)).1
+      unfolding walk_chunk_from
+      walks zero h = let w = sized rest size held e in absurd (omega arith)
+      walks (suc k) h =
+          let w = sized rest size held e in
+          let l = length-drop size rest in
+          rw (room, e) ((walked_in_chunks step).every_whole_record ready k (length (drop size rest)) gone (drop size rest) _ (omega arith) (omega arith))
 
-      used : c.at + size ≡ length chunk - length gone.rest
-      used = omega (arith, left, w.0, w.1, u.within)
-
-      more_text : lines_after shown n gone.said ≡ lines_after shown n r.said ++ text
-      more_text = lines_more n r.said x shown
-
-      more_put : c.put + length text ≡ length (lines_after shown n gone.said)
-      more_put = sym (ap length more_text ∙ length-append (lines_after shown n r.said) text)
-
-      put_is : put_whole size text c (out_of r) ≡ (passed size (length text) c, sets (out_of r) c.put text)
+      put_is : (passed size (length (line_after x)) c, sets d' c.put (line_after x)) ≡ puts (whole size held)
       unfolding put_whole
-      put_is = rw (ap (λ (m : ℕ). roomy m c.put) (length-sets d 0 (lines_after shown n r.said)) ∙ roomy-here)
+      put_is = rw (same_ready ∙ room)
 
-      whole_cursor : (put_whole size text c (out_of r)).0 ≡ cursor_of gone
-      whole_cursor =
-          ap (λ (y : Cursor × List ℕ). y.0) put_is
-          ∙ (λ i. record { at = used i; put = more_put i; records = sym (number_more n r.said x) i; going = true })
-
-      whole_out : (put_whole size text c (out_of r)).1 ≡ out_of gone
-      whole_out =
-          let here : c.put ≡ 0 + c.put = omega arith in
-          ap (λ (y : Cursor × List ℕ). y.1) put_is ∙ ap (λ (m : ℕ). sets (out_of r) m text) here
-          ∙ sym (sets_append (lines_after shown n r.said) text d 0) ∙ ap (sets d 0) (sym more_text)
-
-      whole_shape : Shape k gone
-      whole_shape =
+      passes : Turned size (says (whole size held)).1 (puts (whole size held))
+      passes =
+          let w = sized rest size held e in
+          let l = length-drop c.at chunk in
+          let more = lines_more n g.said x shown in
           record {
-            rest = ap (drop size) u.rest ∙ drop-drop size c.at chunk ∙ ap (λ (m : ℕ). drop m chunk) used;
-            within = omega (arith, left, u.within);
-            table = same ∙ u.table;
-            fuel = λ _. omega (arith, left, w.0, w.1, u.fuel on);
-            records = omega (arith, number_more n r.said x);
+            fits = omega arith;
+            goes = subst (λ (p : Cursor × List ℕ). Going p.0 (says (whole size held)).1 p.1) put_is (record {
+              said = gone;
+              walked = ap (λ (r : List ℕ). onward true gone r (says (whole size held)).1) (sym (drop-drop size c.at chunk)) ∙ sym (walks (length rest) refl) ∙ going_on;
+              at = omega arith;
+              put = let m = length-append (lines_after shown n g.said) (line_after x) in cc;
+              records = let m = number_more n g.said x in cc;
+              out = let m = sets_append (lines_after shown n g.said) (line_after x) d 0 in let z : 0 + c.put ≡ c.put = omega arith in cc;
+            });
+            falls = subst (λ (p : Cursor × List ℕ). turns_left chunk p.0 < turns_left chunk c) put_is (rw on (omega arith));
           }
 
-      passes : Turned (put_whole size text c (out_of r)) z size gone
-      passes = record { cursor = whole_cursor; out = whole_out; table = refl; shape = whole_shape; fits = omega (arith, w.1, u.within) }
+    turned : (b : Bool) → ready g.said ≡ b → (f : Front) → entry_of rest ≡ f → Turned (size_ahead (cond b f end)) (says (cond b f end)).1 (puts (cond b f end))
+    turned false r f e = stops (λ walk. rw r)
+    turned true r end e = stops (λ walk. rw (r, e))
+    turned true r cut e = stops (λ walk. rw (r, e))
+    turned true r (whole size held) e = passes size held r e
 
-    turned : (b : Bool) → ready r.said ≡ b → (f : Front) → entry_of r.rest ≡ f → r.going ≡ true
-        → Turned (put_next (ahead b f) (text_of (stepped (ahead b f)).0.line) c (out_of r)) (stepped (ahead b f)).1 (size_ahead (ahead b f)) (after b f)
-    turned false e f at_front on = stops
-    turned true e end at_front on = stops
-    turned true e cut at_front on = stops
-    turned true e (whole size held) at_front on =
-        let s = stepped (whole size held) in
-        passes size (sized r.rest size held at_front) s.0 s.1 (length_after r.table (take size r.rest) held) e on
+    -- a turn, whatever its parts are called
+    module _ (f : Front) (at_front : f ≡ cond (roomy (length d') c.put) (entry_of rest) end) where
+      pub fits : c.at + size_ahead f ≤ length chunk
+      fits = let u = turned (roomy (length d') c.put) (sym same_ready) (entry_of rest) refl in rw at_front u.fits
 
-    -- the run afterwards comes to the same
-    same_part : (b : Bool) (f : Front) → in_turns k (after b f) ≡ cond b (walk_chunk_by step (walk_chunk_from step k ready) r.said r.rest r.table f) (stop r)
-    same_part false f = refl
-    same_part true end = refl
-    same_part true cut = refl
-    same_part true (whole size held) = refl
-
-  picks : (b : Bool) → b ≡ true → (x y z : ChunkWalk Said Table) → cond b x y ≡ z → x ≡ z
-  picks true e x y z h = h
-  picks false e x y z h = absurd (subst T (sym e) tt)
-
-  -- what is at the front, given room, its bytes, what it holds, what is done with it, and what its line leaves are the turn
-  module _ (k : ℕ) (r : Run) (u : Under (suc k) r) (on : r.going ≡ true) where
-    abbrev here : Cursor
-    here = cursor_of r
-
-    abbrev b : Bool
-    b = ready r.said
-
-    abbrev pub onward : Run
-    onward = after k r u.shape b (entry_of r.rest)
-
-    abbrev front : Front
-    front = ahead k r u.shape b (entry_of r.rest)
-
-    abbrev says : Said × Table
-    says = stepped k r u.shape front
-
-    is_turned : Turned k r u.shape (put_next front (text_of k r u.shape says.0.line) here (out_of r)) says.1 (size_ahead front) onward
-    is_turned = turned k r u.shape b refl (entry_of r.rest) refl on
-
-    module _ (f : Front) (at_front : f ≡ cond b (entry_of (drop here.at chunk)) end) where
-      is_front : f ≡ front
-      is_front = at_front ∙ ap (λ (l : List ℕ). cond b (entry_of l) end) (sym u.shape.rest)
-
-      pub front_fits : here.at + size_ahead f ≤ length chunk
-      front_fits = subst (λ (x : Front). here.at + size_ahead x ≤ length chunk) (sym is_front) is_turned.fits
-
-      module _ (bytes : List ℕ) (is-bytes : bytes ≡ part here.at (size_ahead f) chunk) (held : Held) (is_held_lem : held ≡ held_ahead f) where
-        is_step : step r.table bytes held ≡ says
-        is_step = (λ i. step r.table (is-bytes i) (is_held_lem i)) ∙ (λ i. step r.table (take (size_ahead (is_front i)) (sym u.shape.rest i)) (held_ahead (is_front i)))
-
-        pub same_table : (step r.table bytes held).1 ≡ onward.table
-        same_table = ap (λ (x : Said × Table). x.1) is_step ∙ is_turned.table
-
-        module _ (line : Line) (is-line : line ≡ (step r.table bytes held).0.line) where
-          abbrev given : Cursor × List ℕ
-          given = put_next f (text_of k r u.shape line) here (out_of r)
-
-          same_line : line ≡ says.0.line
-          same_line = is-line ∙ ap (λ (x : Said × Table). x.0.line) is_step
-
-          same_given : given ≡ put_next front (text_of k r u.shape says.0.line) here (out_of r)
-          same_given = λ i. put_next (is_front i) (text_of k r u.shape (same_line i)) here (out_of r)
-
-          pub same_cursor : given.0 ≡ cursor_of onward
-          same_cursor = ap (λ (x : Cursor × List ℕ). x.0) same_given ∙ is_turned.cursor
-
-          pub same_out : given.1 ≡ out_of onward
-          same_out = ap (λ (x : Cursor × List ℕ). x.1) same_given ∙ is_turned.out
-
-          pub under : (here.put ≤ length (out_of r) → given.0.put ≤ length given.1) → Under k onward
-          unfolding walk_chunk_from
-          under bound =
-              record {
-                shape = is_turned.shape;
-                onward = same_part k r u.shape b (entry_of r.rest) ∙ picks r.going on (walk_chunk_from step (suc k) ready r.said r.rest r.table) (stop r) (chunked shown chunk t n (length d)) u.onward;
-                put = omega (arith, put_in);
-              }
-            where
-              was : length (out_of r) ≡ length d
-              was = length-sets d 0 (lines_after shown n r.said)
-
-              is : length (out_of onward) ≡ length d
-              is = length-sets d 0 (lines_after shown n onward.said)
-
-              before : here.put ≤ length (out_of r)
-              before = omega (arith, was, u.put)
-
-              moved : (cursor_of onward).put ≤ length (out_of onward)
-              moved = subst (λ (x : Cursor). x.put ≤ length (out_of onward)) same_cursor (subst (λ (l : List ℕ). given.0.put ≤ length l) same_out (bound before))
-
-              put_in : length (lines_after shown n onward.said) ≤ length d
-              put_in = omega (arith, is, moved)
+      module _ (bytes : List ℕ) (is_bytes : bytes ≡ part c.at (size_ahead f) chunk) (held : Held) (is_held : held ≡ held_ahead f) (o : Outcome) (z : Table) (b : Obeyed t' bytes held o z) where
+        pub goes : (r : Cursor) (d'' : List ℕ) → Becomes (put_next f (if_shown shown (line_text (next_number c.records) (line_of o))) c d') c d' r d'' → Going r z d'' × (turns_left chunk r < turns_left chunk c)
+        goes r d'' p =
+            let u = turned (roomy (length d') c.put) (sym same_ready) (entry_of rest) refl in
+            rw (p.cursor, p.out, b.table, b.line, is_bytes, is_held, at_front) (u.goes, u.falls)

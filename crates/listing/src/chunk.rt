@@ -38,6 +38,7 @@ pub(crate) struct Cursor {
 }
 
 // The record at place `at`; none where its line has no room.
+#[tactic(auto, unfolding(capture::specs::Records::entry_of))]
 pub(crate) fn front_of(chunk: &[u8], at: usize, len: usize, put: usize) -> Entry
     ensures { front_of result ≡ (if roomy len put then entry_of (drop at chunk.now) else end) }
 {
@@ -86,6 +87,7 @@ pub(crate) fn content_of(entry: Entry) -> Content
     }
 }
 
+#[tactic(auto, using(refusal::proofs::First::positive), unfolding(stream::specs::Answers::refused_with))]
 pub(crate) fn outcome_of_receipt(receipt: Receipt) -> Outcome
     ensures { line_of result ≡ frame_line (receipt_answer receipt []) }
 {
@@ -121,6 +123,7 @@ fn stopped(c: Cursor) -> Cursor
 }
 
 // The line of record number `n`, where lines are shown.
+#[tactic(auto, unfolding(lines::specs::Placing::line_at))]
 fn put_shown(out: &mut [u8], at: usize, n: u64, outcome: Outcome, shown: bool) -> Placed
     ensures out_after { placed_line result out.new ≡ line_at out.old at (if_shown shown (line_text n (line_of outcome))) }
     ensures out_in_bounds { (placed_line result out.new).end ≤ length out.new }
@@ -135,6 +138,7 @@ fn put_shown(out: &mut [u8], at: usize, n: u64, outcome: Outcome, shown: bool) -
 }
 
 // The line of a record of this size.
+#[tactic(auto, unfolding(crate::specs::Private::put_whole, lines::specs::Placing::line_at))]
 fn put_whole(out: &mut [u8], c: Cursor, size: usize, outcome: Outcome, shown: bool) -> Cursor
     requires { c.at + size < 2 ^ 64 }
     ensures { Becomes (put_whole size (if_shown shown (line_text (next_number c.records) (line_of outcome))) c out.old) c out.old result out.new }

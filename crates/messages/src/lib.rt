@@ -1,11 +1,15 @@
 // What a program says on standard error, and what it writes to standard output.
 #![tactic(auto)]
 
+pub mod noting;
+mod reason;
+
 ghost use Rattle.std.specs.Prelude.{◌≡◌, true, []};
+ghost use Rattle.text.specs.Text.{ascii};
 ghost use Rattle.text.specs.InTurn.{PutInTurn};
 ghost use Rattle.messages.specs.Messages.{plain, shown_byte, shown, NamesArePrintable, about, message};
 
-use libc::{STDERR_FILENO, STDOUT_FILENO};
+use std::io::{Error, ErrorKind, Write};
 
 // Does a terminal show this byte as a character, and nothing else?
 fn is_plain(b: u8) -> bool
@@ -70,40 +74,69 @@ fn put_message(out: &mut [u8], at: usize, program: &[u8], name: &[u8], text: &[u
     text::put(out, end, b"\n")
 }
 
-// Says something about a file. The message stands in the room that the caller lends, and goes to standard error from there. Answers the
-// place after it; one that has no room is not said.
-pub fn say(room: &mut [u8], program: &[u8], name: &[u8], text: &[u8]) -> usize
+// Says something about a file. The message stands in the room that the caller lends, and goes from there to standard error, which is handed
+// in. Answers the place after it; one that has no room is not said.
+pub fn say<E: Write>(
+    errors: &mut E,
+    room: &mut [u8],
+    program: &[u8],
+    name: &[u8],
+    text: &[u8],
+) -> usize
     ensures { PutInTurn room.old 0 (message program.now name.now text.now) room.new result }
 {
     let end = put_message(room, 0, program, name, text);
     if end <= room.len() {
-        io::write_all(STDERR_FILENO, &room[0..end]);
+        let _ = errors.write_all(&room[0..end]);
     }
     end
 }
 
-// Says why the last call on a file failed: what stands in the room, and the system's reason behind it.
-pub fn fail(room: &mut [u8], program: &[u8], name: &[u8]) -> usize
+// Says why a call on a file failed: what stands in the room, and the system's reason behind it.
+pub fn fail<E: Write>(
+    errors: &mut E,
+    room: &mut [u8],
+    program: &[u8],
+    name: &[u8],
+    why: Error,
+) -> usize
     ensures { PutInTurn room.old 0 (about program.now name.now) room.new result }
 {
     let end = put_about(room, 0, program, name);
     if end <= room.len() {
-        os::fail(&room[0..end]);
+        let _ = reason::write(errors, &room[0..end], why);
     }
     end
 }
 
-// Writes all of a text to standard output, or says why it cannot.
-pub fn write(program: &[u8], text: &[u8]) -> bool
+// Says why standard output could not be written, as `fail` does. Nothing is said where the reader of a pipe has left: it wants no more.
+pub fn fail_output<E: Write>(errors: &mut E, room: &mut [u8], program: &[u8], why: Error) -> usize
+    ensures { PutInTurn room.old 0 (about program.now (ascii "standard output")) room.new result }
+{
+    if why.kind() == ErrorKind::BrokenPipe {
+        return put_about(room, 0, program, b"standard output");
+    }
+    fail(errors, room, program, b"standard output", why)
+}
+
+// Writes all of a text to standard output, or says on standard error why it cannot.
+pub fn write<O: Write, E: Write>(
+    output: &mut O,
+    errors: &mut E,
+    program: &[u8],
+    text: &[u8],
+) -> bool
     ensures { text.now ≡ [] → result ≡ true }
 {
     if text.len() == 0 {
         return true;
     }
-    if io::write_all(STDOUT_FILENO, text) {
-        return true;
+    match output.write_all(text) {
+        Ok(()) => true,
+        Err(why) => {
+            let mut room = [0u8; 65536];
+            fail_output(errors, &mut room, program, why);
+            false
+        }
     }
-    let mut room = io::large_buffer();
-    fail(&mut room, program, b"standard output");
-    false
 }

@@ -1,6 +1,6 @@
 -- Arguments read one after the other, all of them names so far. Assumes nothing.
 use Prim.Native.Nat.{ℕ, ◌+◌, ◌-◌, ◌≤◌, ◌<◌}
-use mathlib.Core.Path.{◌≡◌, refl, sym, ap, ◌∙◌, subst}
+use mathlib.Core.Path.{◌≡◌, sym, ap, ◌∙◌, subst}
 use mathlib.Core.Bool.{true, false}
 use mathlib.Core.List.{List, [], ◌∷◌, ◌++◌, append-nil, append_assoc}
 use native.Mathlib.Numerals.{add-one}
@@ -16,9 +16,6 @@ pub record Names (at : ℕ) : Type 0 where
   pub words : List (List ℕ)
   pub passes : (rest : List (List ℕ)) → first_option 1 (words ++ rest) ≡ first_option at rest
   pub many : length words + 1 ≡ at
-
-pub no_names : Names 1
-no_names = record { words = []; passes = λ rest. refl; many = refl }
 
 module _ {at : ℕ} (names : Names at) where
   pub all_names : {count : ℕ} → at - 1 ≤ count - 1 → count ≤ at → Requested (record { word = Name; at = at; count = count })

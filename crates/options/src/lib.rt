@@ -1,12 +1,14 @@
 // The words that a program is started with: names of files, and options.
 #![tactic(auto)]
 
-ghost use Rattle.std.specs.Prelude.{◌≡◌};
-ghost use Rattle.io.specs.Counts.{IsPrefixLen};
+ghost use Rattle.std.specs.Prelude.{◌≡◌, ◌≤◌, length};
 ghost use Rattle.text.specs.Text.{ascii};
 ghost use Rattle.words.specs.Words.{same as sameWord};
 ghost use Rattle.options.specs.Options.{option_of, meaning, is_name, Meant, Requested, others_by, names_of, Refused};
 
+use std::env::FillError;
+use std::io::Write;
+use std::rt::Env;
 use words::{same, starts_with};
 
 // What a word asks for.
@@ -25,6 +27,7 @@ pub enum Word {
 }
 
 // Which option a word with a dash in front is.
+#[tactic(auto, unfolding(crate::specs::Options::option_of))]
 fn option(bytes: &[u8]) -> Word
     ensures { result ≡ option_of bytes.now }
 {
@@ -51,6 +54,7 @@ pub fn is_dash(word: &[u8]) -> bool
 }
 
 // What a word asks for.
+#[tactic(auto, unfolding(crate::specs::Options::meaning))]
 pub fn classify(bytes: &[u8]) -> Word
     ensures { result ≡ meaning bytes.now }
 {
@@ -73,21 +77,40 @@ pub struct Request {
 }
 
 // An argument in a buffer: the bytes that it has there. One that has no room is there as far as it goes.
-pub fn argument(i: usize, room: &mut [u8]) -> usize
-    ensures { IsPrefixLen result room.new }
+pub fn argument<A: Env>(arguments: &A, i: usize, room: &mut [u8]) -> usize
+    ensures { result ≤ length room.new }
 {
-    let n = os::arg(i, room);
-    if os::errno() == libc::ENAMETOOLONG {
-        return room.len();
+    match arguments.arg(i, room) {
+        Ok(n) => n,
+        Err(FillError::TooLong) => room.len(),
+        Err(FillError::NotPresent) => 0,
     }
-    n
 }
 
-fn word_at(i: usize) -> Word
+fn is_argument<A: Env>(arguments: &A, i: usize) -> bool {
+    let mut room = [0u8; 1];
+    match arguments.arg(i, &mut room) {
+        Ok(_) => true,
+        Err(FillError::TooLong) => true,
+        Err(FillError::NotPresent) => false,
+    }
+}
+
+// How many arguments there are, the program's own name among them.
+fn argument_count<A: Env>(arguments: &A) -> usize {
+    for i in 0..usize::MAX {
+        if !is_argument(arguments, i) {
+            return i;
+        }
+    }
+    usize::MAX
+}
+
+fn word_at<A: Env>(arguments: &A, i: usize) -> Word
     ensures { Meant result }
 {
-    let mut room = io::buffer();
-    let n = argument(i, &mut room);
+    let mut room = [0u8; 4096];
+    let n = argument(arguments, i, &mut room);
     classify(&room[..n])
 }
 
@@ -103,13 +126,13 @@ fn is_name(word: Word) -> bool
     }
 }
 
-pub fn read_request() -> Request
+pub fn read_request<A: Env>(arguments: &A) -> Request
     ensures { Requested result }
 {
-    let count = os::arg_count();
+    let count = argument_count(arguments);
     let mut i = 1;
     while i < count {
-        let word = word_at(i);
+        let word = word_at(arguments, i);
         if !is_name(word) {
             return Request { word, at: i, count };
         }
@@ -148,12 +171,19 @@ pub fn name_count(request: Request) -> usize
 }
 
 // Says that the option at a place is unknown, as `messages::say` does.
-pub fn refuse(room: &mut [u8], program: &[u8], i: usize) -> usize
+pub fn refuse<A: Env, E: Write>(
+    arguments: &A,
+    errors: &mut E,
+    room: &mut [u8],
+    program: &[u8],
+    i: usize,
+) -> usize
     ensures { Refused program.now room.old room.new result }
 {
-    let mut word = io::buffer();
-    let n = argument(i, &mut word);
+    let mut word = [0u8; 4096];
+    let n = argument(arguments, i, &mut word);
     messages::say(
+        errors,
         room,
         program,
         &word[..n],

@@ -5,7 +5,10 @@
 ghost use Rattle.std.specs.Prelude.{◌≡◌, false};
 ghost use Rattle.progress.specs.Progress.{ticked, Told, hidden};
 
-use libc::{STDERR_FILENO, STDOUT_FILENO};
+use std::fs;
+use std::io::IsTerminal;
+use std::os::unix::fs::FileTypeExt;
+use std::time::{SystemTime, UNIX_EPOCH};
 
 #[derive(Clone, Copy)]
 pub struct Progress {
@@ -20,27 +23,37 @@ pub struct Progress {
 }
 
 // The clock's second, and 0 where it has none.
-fn clock() -> u64 {
-    let mut stored = 0;
-    let second = libc::time(&mut stored);
-    if second < 0 {
+fn clock(rt: HostRuntime) -> u64 {
+    let Ok(now) = SystemTime::now(&rt) else {
         return 0;
+    };
+    match now.duration_since(UNIX_EPOCH) {
+        Ok(since) => since.as_secs(),
+        Err(_) => 0,
     }
-    second as u64
 }
 
-// Has the descriptor a place to read or write at, which no terminal and no pipe has?
-fn is_file(fd: i32) -> bool {
-    libc::lseek(fd, 0, libc::SEEK_CUR) >= 0
+// Has standard output a place to write at, which no terminal and no pipe has?
+fn is_file(rt: HostRuntime) -> bool {
+    if rt.stdout().is_terminal() {
+        return false;
+    }
+    match fs::metadata(&rt, "/dev/stdout") {
+        Ok(metadata) => {
+            let kind = metadata.file_type();
+            !kind.is_fifo() && !kind.is_socket()
+        }
+        Err(_) => false,
+    }
 }
 
 // A run begins.
-pub fn start() -> Progress
+pub fn start(rt: HostRuntime) -> Progress
     ensures { (result.ticked ≡ false) × (result.shown ≡ false) }
 {
     Progress {
-        wanted: libc::isatty(STDERR_FILENO) == 1 && is_file(STDOUT_FILENO),
-        second: clock(),
+        wanted: rt.stderr().is_terminal() && is_file(rt),
+        second: clock(rt),
         ticked: false,
         shown: false,
     }
@@ -61,32 +74,30 @@ fn tick(p: Progress, second: u64) -> Progress
     }
 }
 
-fn show(records: u64) {
-    io::write_all(STDERR_FILENO, b"\r");
-    io::print_decimal(STDERR_FILENO, records);
-    io::write_all(STDERR_FILENO, b" records");
+fn show(rt: HostRuntime, records: u64) {
+    let _ = eprint!(rt; "\r{records} records");
 }
 
 // The run has come so far.
-pub fn tell(p: Progress, records: u64) -> Progress
+pub fn tell(rt: HostRuntime, p: Progress, records: u64) -> Progress
     ensures { Told p result }
 {
     if !p.wanted {
         return p;
     }
-    let next = tick(p, clock());
+    let next = tick(p, clock(rt));
     if next.shown && next.second != p.second {
-        show(records);
+        show(rt, records);
     }
     next
 }
 
 // The run is over. Only what was shown is wiped.
-pub fn hide(p: Progress) -> Progress
+pub fn hide(rt: HostRuntime, p: Progress) -> Progress
     ensures { result ≡ hidden p }
 {
     if p.shown {
-        io::write_all(STDERR_FILENO, b"\r                            \r");
+        let _ = eprint!(rt; "\r                            \r");
     }
     Progress {
         wanted: p.wanted,

@@ -5,7 +5,7 @@ use mathlib.Core.List.{List, [], ◌∷◌, ◌++◌, append-nil, append_assoc}
 use native.Mathlib.Numerals.{add-one}
 use native.Mathlib.Omega.{arith}
 use lib.ListN.{length, take, get_or, length-append}
-use lib.Seq.{take-suc, take_all}
+use lib.Seq.{take-suc}
 use Rattle.stream.specs.declared.Record.{Record}
 use Rattle.text.specs.InTurn.{PutInTurn}
 use Rattle.text.proofs.Puts.{more}
@@ -32,11 +32,3 @@ module _ (table : List Record) (i : ℕ) {d d₁ : List ℕ} {m : ℕ} (u : Upto
         put = rw next (more u.put q);
         short = rw next (omega (arith, sum, u.short));
       }
-
-  pub all_put : 64 ≤ i → PutInTurn d 0 (table_text table) d₁ m
-  all_put h = rw (take_all i table (omega arith)) at u.put
-
-  pub table_length : 64 ≤ i → length (table_text table) ≤ 25_792
-  table_length h =
-      let s : length (table_text table) ≤ 403 * i = rw (take_all i table (omega arith)) at u.short in
-      omega (arith, s, u.few)

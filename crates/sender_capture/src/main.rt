@@ -4,7 +4,7 @@
 
 ghost use Rattle.std.specs.Prelude.{◌≤◌};
 
-use libc::STDOUT_FILENO;
+use std::io;
 use writer::given::{AvtpFields, CipFields, EthernetFields, Given, StreamFields};
 use writer::{Sender, Written};
 
@@ -44,7 +44,7 @@ fn given(timestamp: u32) -> Given {
 }
 
 // A number of 64 bits, the least significant byte first.
-fn put_le64(n: u64) {
+fn put_le64(rt: HostRuntime, n: u64) -> io::Result<()> {
     let bytes = [
         (n % 256) as u8,
         (n / 0x100 % 256) as u8,
@@ -55,55 +55,51 @@ fn put_le64(n: u64) {
         (n / 0x1_0000_0000_0000 % 256) as u8,
         (n / 0x100_0000_0000_0000 % 256) as u8,
     ];
-    io::write_all(STDOUT_FILENO, &bytes);
+    rt.write_all(&bytes)
 }
 
 // Kind 2: eight id bytes in wire order.
-fn put_admission() {
-    io::write_all(
-        STDOUT_FILENO,
-        b"\x0a\x00\x02\x00\x00\x00\x00\x00\x00\x00\x00\x01",
-    );
+fn put_admission(rt: HostRuntime) -> io::Result<()> {
+    rt.write_all(b"\x0a\x00\x02\x00\x00\x00\x00\x00\x00\x00\x00\x01")
 }
 
 // Kind 1: a frame of at most 245 bytes, so that one byte holds the record's length.
-fn put_arrival(arrival_time: u64, frame: &[u8]) {
+fn put_arrival(rt: HostRuntime, arrival_time: u64, frame: &[u8]) -> io::Result<()> {
     let n = frame.len();
     if n > 245 {
-        return;
+        return Ok(());
     }
     let start = [(n + 10) as u8, 0, 1, 0];
-    io::write_all(STDOUT_FILENO, &start);
-    put_le64(arrival_time);
-    io::write_all(STDOUT_FILENO, frame);
+    rt.write_all(&start)?;
+    put_le64(rt, arrival_time)?;
+    rt.write_all(frame)
 }
 
 // A frame with this many blocks of eight bytes, due at a time and arriving at half of it.
-fn send(sender: Sender, time: u32, blocks: usize) -> Sender
+fn send(rt: HostRuntime, sender: Sender, time: u32, blocks: usize) -> io::Result<Sender>
     requires { blocks ≤ 15 }
 {
     let payload = [0x55u8; 120];
     let mut out = [0u8; 170];
     let n = 8 * blocks;
     match writer::write(sender, given(time), &payload[0..n], &mut out) {
-        Written::Refused(_, same) => same,
+        Written::Refused(_, same) => Ok(same),
         Written::Sent(next) => {
             let end = 50 + n;
-            put_arrival(time as u64 / 2, &out[0..end]);
-            next
+            put_arrival(rt, time as u64 / 2, &out[0..end])?;
+            Ok(next)
         }
     }
 }
 
-fn main() {
-    put_admission();
+fn main(rt: HostRuntime) -> io::Result<()> {
+    put_admission(rt)?;
     let mut sender = Sender {
         sequence: 240,
         dbc: 100,
     };
-    let mut i: u32 = 0;
-    while i < 64 {
-        sender = send(sender, 1000 * i, (i % 16) as usize);
-        i += 1;
+    for i in 0u32..64 {
+        sender = send(rt, sender, 1000 * i, (i % 16) as usize)?;
     }
+    Ok(())
 }

@@ -96,6 +96,7 @@ pub enum Receipt {
     Refused(Refusal),
 }
 
+#[tactic(auto, unfolding(crate::specs::Records::unused))]
 pub fn unused() -> Record
     ensures { result ≡ unused }
 {
@@ -128,6 +129,7 @@ pub fn unused() -> Record
 
 // A stream newly admitted: its id and its limit, nothing seen, zero in every other field and count. Any limit may be given: one above
 // 2,147,483,647, which admission to a table refuses, acts as that.
+#[tactic(auto, unfolding(crate::specs::Records::unused, crate::specs::Records::admitted_within))]
 pub fn admitted_within(id: u64, limit: u32) -> Record
     ensures { result ≡ admitted_within id limit }
 {
@@ -138,6 +140,7 @@ pub fn admitted_within(id: u64, limit: u32) -> Record
     record
 }
 
+#[tactic(auto, unfolding(crate::specs::Records::format_of))]
 fn format_of(cip: Cip) -> Format
     ensures { result ≡ format_of cip }
 {
@@ -149,6 +152,7 @@ fn format_of(cip: Cip) -> Format
     }
 }
 
+#[tactic(auto, unfolding(crate::specs::Records::format_change))]
 fn format_change(last: Format, format: Format) -> bool
     ensures { result ≡ format_change last format }
 {
@@ -179,6 +183,7 @@ fn expects_count(last: Record) -> bool
 }
 
 // What is kept of a frame's CIP header; a frame that has none leaves what is kept.
+#[tactic(auto, unfolding(crate::specs::Private::kept_after, crate::specs::Records::kept_dbc, crate::specs::Records::dbc_expected, crate::specs::Records::kept_format, frame::specs::Reading::blocks_with))]
 fn keep(last: Record, fields: Fields, payload: &[u8]) -> Kept
     ensures { result ≡ kept_after last fields payload.now }
 {
@@ -225,6 +230,7 @@ fn raise_flags(last: Record, fields: Fields, kept: Format) -> Flags
 }
 
 // A count, one higher where the flag is raised and there is room.
+#[tactic(auto, unfolding(crate::specs::Records::bump))]
 fn bump(raised: bool, count: u32) -> u32
     ensures { result ≡ bump raised count }
 {
@@ -237,6 +243,7 @@ fn bump(raised: bool, count: u32) -> u32
 }
 
 // Most frames raise no flag, and then only the frames are counted.
+#[tactic(auto, unfolding(crate::specs::Records::counts_after, crate::specs::Records::bump))]
 fn count_frame(counts: Counts, raised: Flags) -> Counts
     ensures { result ≡ counts_after counts raised }
 {
@@ -251,6 +258,7 @@ fn count_frame(counts: Counts, raised: Flags) -> Counts
     after
 }
 
+#[tactic(auto, unfolding(crate::specs::Records::record_after, crate::specs::Private::kept_after))]
 fn update(last: Record, fields: Fields, kept: Kept, raised: Flags, timing: Timing) -> Record
     ensures { Updated last fields kept raised timing result }
 {
@@ -288,6 +296,7 @@ pub fn step(last: Record, fields: Fields, payload: &[u8], arrival_time: u64) -> 
 }
 
 // The payload that goes with a receipt: a part of the frame for which it was given, empty where that is refused.
+#[tactic(auto, unfolding(crate::specs::Answers::refused_with))]
 pub fn payload_of(receipt: Receipt, frame: &[u8]) -> &[u8]
     ensures result_value { result.now ≡ (receipt_answer receipt frame.now).payload }
     ensures stands_in { StandsIn frame.entry.ref_ptr (start_in receipt) result.ref_ptr (PayloadThere receipt frame.now) }

@@ -23,7 +23,7 @@ changed_length (Place i r) t = length-set t i r
 changed_length (Refuse c) t = refl
 
 -- what a change of the table t at x says, where p is the number and the table that the rule says; and the place is in the table
-abbrev Says : Target → Table → ℕ × Table → Type 0
+abbrev pub Says : Target → Table → ℕ × Table → Type 0
 Says x t p = (change_number (change_of x) ≡ p.0) × ((changed_at x t ≡ p.1) × Fits x (length t))
 
 module _ (t : Table) (id : ℕ) where
@@ -52,9 +52,14 @@ module _ (t : Table) (id : ℕ) where
   short Removal (At i) free h f e = let there = found_at t (Holding id) h in rw (e, there.0, there.1) (refl, (refl, found_within t (Holding id) h))
   short Removal Nothing free h f e = let absent = found_none t (Holding id) h in rw (e, absent) (refl, (refl, tt))
 
-  pub decides : (k : Asked) → Decides k (find t (Holding id)) (find t Unused)
+  decides : (k : Asked) → Decides k (find t (Holding id)) (find t Unused)
   decides k = by_length (ltb 64 (length t)) refl
     where
       by_length : (b : Bool) → ltb 64 (length t) ≡ b → Decides k (find t (Holding id)) (find t Unused)
       by_length true e = long k (find t (Holding id)) (find t Unused) e
       by_length false e = short k (find t (Holding id)) (find t Unused) refl refl e
+
+  -- from what the searches and the decision answered
+  pub decided : (k : Asked) {held free : Found} {x : Target} → held ≡ find t (Holding id) → free ≡ find t Unused → x ≡ target_of k id (length t) held free
+      → Says x t (rule_of k t id)
+  decided k h f e = rw (e, h, f) (decides k)

@@ -18,7 +18,6 @@ use Rattle.frame.specs.Reading.{ReadAnswer, reading_by, reading, read_answer}
 use Rattle.refusal.proofs.First.{positive, or_else, both, then}
 use Rattle.stream.specs.declared.Record.{Record}
 use Rattle.frame.proofs.Groups.{frame_numbered}
-use Rattle.stream.specs.declared.Receipt.{Receipt}
 use Rattle.table.specs.declared.Served.{Served}
 use Rattle.stream.specs.declared.Receipt.TheVariants as receipt
 use Rattle.table.specs.Private.{served}

@@ -4,11 +4,11 @@ use mathlib.Core.Path.{◌≡◌, refl, sym, ap, subst, ◌∙◌}
 use Prim.Native.Nat.{ℕ, zero, suc, ◌+◌, ◌<◌, ◌≤◌}
 use native.Mathlib.Nat.{add-zero, not-suc-le-zero, le_of_suc-le-suc}
 use native.Mathlib.Omega.{arith}
-use mathlib.Core.Bool.{Bool, true, false, not, cond, ◌||◌}
+use mathlib.Core.Bool.{Bool, true, false, cond, ◌||◌}
 use mathlib.Core.List.{[], ◌∷◌}
 use lib.ListN.{length, drop}
 use lib.Seq.{drop-cons}
-use lib.Dec.{T, T_not, ltb, lt→ltb}
+use lib.Dec.{T}
 use Rattle.stream.specs.declared.Record.{Record}
 use Rattle.stream.specs.Records.{unused}
 use Rattle.table.specs.declared.Found.{Found}
@@ -26,14 +26,6 @@ unfolding find
 at_first t w = ap (λ (i : ℕ). cond (any (wants w) t) (At i) Nothing) (add-zero (place (wants w) t))
 
 -- ---- a search, place by place
-holds : (b : Bool) → T b → b ≡ true
-holds true _ = refl
-holds false a = absurd a
-
-fails : (b : Bool) → T (not b) → b ≡ false
-fails true a = absurd a
-fails false _ = refl
-
 drop_all : (t : Table) (i : ℕ) → length t ≤ i → drop i t ≡ []
 drop_all [] zero h = refl
 drop_all [] (suc i) h = refl
@@ -57,17 +49,14 @@ module _ (p : Record → Bool) (t : Table) (i : ℕ) where
   here h = let next : suc i ≡ i + 1 = omega arith in drop-cons t i unused h ∙ ap (λ (k : ℕ). at t i ∷ drop k t) next
 
   -- at a record that it is, that it is not, and at the end
-  pub stops_at : i < length t → T (p (at t i)) → find_from p i (drop i t) ≡ At i
-  stops_at h hit = ap (find_from p i) (here h) ∙ step_hit p (at t i) (drop (i + 1) t) i (holds (p (at t i)) hit)
+  pub stops_at : i < length t → p (at t i) ≡ true → find_from p i (drop i t) ≡ At i
+  stops_at h hit = ap (find_from p i) (here h) ∙ step_hit p (at t i) (drop (i + 1) t) i hit
 
-  pub passes_by : i < length t → T (not (p (at t i))) → find_from p i (drop i t) ≡ find_from p (i + 1) (drop (i + 1) t)
-  passes_by h miss = ap (find_from p i) (here h) ∙ step_miss p (at t i) (drop (i + 1) t) i (fails (p (at t i)) miss)
+  pub passes_by : i < length t → p (at t i) ≡ false → find_from p i (drop i t) ≡ find_from p (i + 1) (drop (i + 1) t)
+  passes_by h miss = ap (find_from p i) (here h) ∙ step_miss p (at t i) (drop (i + 1) t) i miss
 
-  pub ends_there : T (not (ltb i (length t))) → find_from p i (drop i t) ≡ Nothing
-  ends_there ge =
-      let no : i < length t → ⊥ = λ h. T_not (ltb i (length t)) ge (lt→ltb i (length t) h) in
-      let past : length t ≤ i = omega (arith, no) in
-      ap (find_from p i) (drop_all t i past) ∙ step_end p i
+  pub ends_there : length t ≤ i → find_from p i (drop i t) ≡ Nothing
+  ends_there past = ap (find_from p i) (drop_all t i past) ∙ step_end p i
 
 -- ---- what the answer tells
 unfoldable place_of : Found → ℕ

@@ -203,6 +203,7 @@ pub fn receive(table: &mut [Record], frame: &[u8], arrival_time: u64) -> Receipt
 }
 
 // A stream that is not held yet takes the lowest unused record, if there is one and the limit is not too large: 24 before 22.
+#[tactic(auto, unfolding(crate::specs::Private::new_target))]
 fn new_target(id: u64, limit: u32, free: Found) -> Target
     ensures { result ≡ new_target id limit free }
 {
@@ -217,6 +218,7 @@ fn new_target(id: u64, limit: u32, free: Found) -> Target
 
 // Where a record is stored for an id, and which, or why none is: 20 before all else. Admission takes an unused record, unless the id is held
 // already; removal makes the record that holds the id unused again.
+#[tactic(auto, unfolding(crate::specs::Private::target_of))]
 fn decide(asked: Asked, id: u64, n: usize, held: Found, free: Found) -> Target
     ensures { result ≡ target_of asked id n held free }
 {

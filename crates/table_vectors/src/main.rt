@@ -6,9 +6,9 @@
 ghost use Rattle.std.specs.Prelude.{◌≡◌};
 ghost use Rattle.table.specs.Table.{admit, remove, change_number, ChangedBy, Receives, ReceivesAlone};
 
-use libc::STDOUT_FILENO;
 use presentation::{Kind, LARGEST_LIMIT, Timing};
 use refusal::Refusal;
+use std::io;
 use stream::{Receipt, Record};
 use table::Change;
 use writer::Sender;
@@ -16,107 +16,114 @@ use writer::given::{AvtpFields, CipFields, EthernetFields, Given, StreamFields};
 
 // ---- Printing
 
-fn say(bytes: &[u8]) {
-    io::write_all(STDOUT_FILENO, bytes);
+fn say(rt: HostRuntime, bytes: &[u8]) -> io::Result<()> {
+    rt.write_all(bytes)
 }
 
-fn number(name: &[u8], n: u64) {
-    say(name);
-    io::print_decimal(STDOUT_FILENO, n);
+fn number(rt: HostRuntime, name: &[u8], n: u64) -> io::Result<()> {
+    say(rt, name)?;
+    print!(rt; "{n}")
 }
 
-fn bit(name: &[u8], b: bool) {
-    number(name, if b { 1 } else { 0 });
+fn bit(rt: HostRuntime, name: &[u8], b: bool) -> io::Result<()> {
+    number(rt, name, if b { 1 } else { 0 })
 }
 
-fn show_refusal(r: Refusal) {
-    number(b" number=", refusal::number(r) as u64);
+fn show_refusal(rt: HostRuntime, r: Refusal) -> io::Result<()> {
+    number(rt, b" number=", refusal::number(r) as u64)
 }
 
-fn show_change(change: Change) {
+fn show_change(rt: HostRuntime, change: Change) -> io::Result<()> {
     match change {
-        Change::Made => say(b" number=0"),
-        Change::Refused(r) => show_refusal(r),
+        Change::Made => say(rt, b" number=0")?,
+        Change::Refused(r) => show_refusal(rt, r)?,
     }
-    say(b"\n");
+    say(rt, b"\n")
 }
 
-fn show_admission(id: u64, limit: u32, change: Change) {
-    number(b"admit ", id);
-    number(b" limit=", limit as u64);
-    show_change(change);
+fn show_admission(rt: HostRuntime, id: u64, limit: u32, change: Change) -> io::Result<()> {
+    number(rt, b"admit ", id)?;
+    number(rt, b" limit=", limit as u64)?;
+    show_change(rt, change)
 }
 
-fn show_removal(id: u64, change: Change) {
-    number(b"remove ", id);
-    show_change(change);
+fn show_removal(rt: HostRuntime, id: u64, change: Change) -> io::Result<()> {
+    number(rt, b"remove ", id)?;
+    show_change(rt, change)
 }
 
-fn show_kind(kind: Kind) {
+fn show_kind(rt: HostRuntime, kind: Kind) -> io::Result<()> {
     match kind {
-        Kind::None => say(b" kind=none"),
-        Kind::Cut => say(b" kind=cut"),
-        Kind::Outside => say(b" kind=outside"),
-        Kind::Late => say(b" kind=late"),
-        Kind::Ahead => say(b" kind=ahead"),
-        Kind::Unclear => say(b" kind=unclear"),
-        Kind::Far => say(b" kind=far"),
+        Kind::None => say(rt, b" kind=none")?,
+        Kind::Cut => say(rt, b" kind=cut")?,
+        Kind::Outside => say(rt, b" kind=outside")?,
+        Kind::Late => say(rt, b" kind=late")?,
+        Kind::Ahead => say(rt, b" kind=ahead")?,
+        Kind::Unclear => say(rt, b" kind=unclear")?,
+        Kind::Far => say(rt, b" kind=far")?,
     }
+    Ok(())
 }
 
-fn show_timing(timing: Timing) {
+fn show_timing(rt: HostRuntime, timing: Timing) -> io::Result<()> {
     let kind = timing.kind;
-    show_kind(kind);
-    number(b" time=", timing.time);
+    show_kind(rt, kind)?;
+    number(rt, b" time=", timing.time)
 }
 
-fn show_receipt(receipt: Receipt, frame: &[u8], arrival_time: u64) {
-    number(b"receive L=", arrival_time);
+fn show_receipt(
+    rt: HostRuntime,
+    receipt: Receipt,
+    frame: &[u8],
+    arrival_time: u64,
+) -> io::Result<()> {
+    number(rt, b"receive L=", arrival_time)?;
     match receipt {
-        Receipt::Refused(r) => show_refusal(r),
+        Receipt::Refused(r) => show_refusal(rt, r)?,
         Receipt::Accepted(judged) => {
-            say(b" number=0");
+            say(rt, b" number=0")?;
             let timing = judged.timing;
-            show_timing(timing);
+            show_timing(rt, timing)?;
         }
     }
     let payload = stream::payload_of(receipt, frame);
-    number(b" payload=", payload.len() as u64);
-    say(b"\n");
+    number(rt, b" payload=", payload.len() as u64)?;
+    say(rt, b"\n")
 }
 
-fn show_flags(receipt: Receipt) {
+fn show_flags(rt: HostRuntime, receipt: Receipt) -> io::Result<()> {
     if let Receipt::Accepted(judged) = receipt {
         let flags = judged.flags;
-        bit(b"  flags sequence=", flags.sequence);
-        bit(b" block=", flags.block);
-        bit(b" format=", flags.format);
-        bit(b" mr=", flags.mr);
-        say(b"\n");
+        bit(rt, b"  flags sequence=", flags.sequence)?;
+        bit(rt, b" block=", flags.block)?;
+        bit(rt, b" format=", flags.format)?;
+        bit(rt, b" mr=", flags.mr)?;
+        say(rt, b"\n")?;
     }
+    Ok(())
 }
 
-fn show_record(place: u64, r: Record) {
-    number(b"  record ", place);
-    bit(b" in_use=", r.in_use);
-    number(b" id=", r.id);
-    number(b" sequence=", r.sequence as u64);
-    number(b" next_dbc=", r.next_dbc as u64);
-    number(b" limit=", r.limit as u64);
-    number(b" frames=", r.counts.frames as u64);
-    say(b"\n");
+fn show_record(rt: HostRuntime, place: u64, r: Record) -> io::Result<()> {
+    number(rt, b"  record ", place)?;
+    bit(rt, b" in_use=", r.in_use)?;
+    number(rt, b" id=", r.id)?;
+    number(rt, b" sequence=", r.sequence as u64)?;
+    number(rt, b" next_dbc=", r.next_dbc as u64)?;
+    number(rt, b" limit=", r.limit as u64)?;
+    number(rt, b" frames=", r.counts.frames as u64)?;
+    say(rt, b"\n")
 }
 
 // What a record keeps of tags and CIP headers.
-fn show_kept(r: Record) {
-    bit(b"  kept seen=", r.seen);
-    number(b" tag=", r.tag as u64);
-    bit(b" dbc_expected=", r.dbc_expected);
-    number(b" fmt=", r.format.fmt as u64);
-    number(b" dbs=", r.format.dbs as u64);
-    number(b" fn=", r.format.fraction_number as u64);
-    bit(b" sph=", r.format.sph);
-    say(b"\n");
+fn show_kept(rt: HostRuntime, r: Record) -> io::Result<()> {
+    bit(rt, b"  kept seen=", r.seen)?;
+    number(rt, b" tag=", r.tag as u64)?;
+    bit(rt, b" dbc_expected=", r.dbc_expected)?;
+    number(rt, b" fmt=", r.format.fmt as u64)?;
+    number(rt, b" dbs=", r.format.dbs as u64)?;
+    number(rt, b" fn=", r.format.fraction_number as u64)?;
+    bit(rt, b" sph=", r.format.sph)?;
+    say(rt, b"\n")
 }
 
 // ---- Frames
@@ -232,10 +239,10 @@ fn receive_65(table: [Record; 65], frame: &[u8], arrival_time: u64) -> Received6
     }
 }
 
-fn show_65(records: [Record; 65]) {
-    show_record(0, records[0]);
-    show_record(1, records[1]);
-    show_record(64, records[64]);
+fn show_65(rt: HostRuntime, records: [Record; 65]) -> io::Result<()> {
+    show_record(rt, 0, records[0])?;
+    show_record(rt, 1, records[1])?;
+    show_record(rt, 64, records[64])
 }
 
 fn too_long() -> [Record; 65] {
@@ -245,45 +252,54 @@ fn too_long() -> [Record; 65] {
     records
 }
 
-fn change_too_long(records: [Record; 65], id: u64, limit: u32) -> [Record; 65] {
+fn change_too_long(
+    rt: HostRuntime,
+    records: [Record; 65],
+    id: u64,
+    limit: u32,
+) -> io::Result<[Record; 65]> {
     let changes = change_65(records, id, limit);
     let admission = changes.admission;
     let removal = changes.removal;
-    show_admission(id, limit, admission);
-    show_removal(id, removal);
+    show_admission(rt, id, limit, admission)?;
+    show_removal(rt, id, removal)?;
     let after = changes.table;
-    after
+    Ok(after)
 }
 
-fn receive_too_long(records: [Record; 65], frame: &[u8]) -> [Record; 65] {
+fn receive_too_long(
+    rt: HostRuntime,
+    records: [Record; 65],
+    frame: &[u8],
+) -> io::Result<[Record; 65]> {
     let received = receive_65(records, frame, 1000);
     let receipt = received.receipt;
-    show_receipt(receipt, frame, 1000);
+    show_receipt(rt, receipt, frame, 1000)?;
     let after = received.table;
-    after
+    Ok(after)
 }
 
 // 20 before all else: before 21, 24, 23, 1, 3 and 15.
-fn show_too_long() {
-    say(b"# 65 records\n");
+fn show_too_long(rt: HostRuntime) -> io::Result<()> {
+    say(rt, b"# 65 records\n")?;
     let a = too_long();
-    show_65(a);
-    let b = change_too_long(a, 3, LARGEST_LIMIT);
-    let c = change_too_long(b, 1, LARGEST_LIMIT);
-    let d = change_too_long(c, 3, LARGEST_LIMIT + 1);
-    show_65(d);
-    show_frames_too_long(d);
+    show_65(rt, a)?;
+    let b = change_too_long(rt, a, 3, LARGEST_LIMIT)?;
+    let c = change_too_long(rt, b, 1, LARGEST_LIMIT)?;
+    let d = change_too_long(rt, c, 3, LARGEST_LIMIT + 1)?;
+    show_65(rt, d)?;
+    show_frames_too_long(rt, d)
 }
 
-fn show_frames_too_long(records: [Record; 65]) {
+fn show_frames_too_long(rt: HostRuntime, records: [Record; 65]) -> io::Result<()> {
     let mut bytes = frame_of(2, 1, 1);
-    let a = receive_too_long(records, &bytes);
-    let b = receive_too_long(a, &bytes[0..41]);
+    let a = receive_too_long(rt, records, &bytes)?;
+    let b = receive_too_long(rt, a, &bytes[0..41])?;
     bytes[29] = 9;
-    let c = receive_too_long(b, &bytes);
+    let c = receive_too_long(rt, b, &bytes)?;
     bytes[12] = 0;
-    let d = receive_too_long(c, &bytes);
-    show_65(d);
+    let d = receive_too_long(rt, c, &bytes)?;
+    show_65(rt, d)
 }
 
 // ---- A record lent alone
@@ -305,135 +321,174 @@ fn receive_alone(last: Record, frame: &[u8], arrival_time: u64) -> Alone
     }
 }
 
-fn receive_lent(last: Record, frame: &[u8], arrival_time: u64) -> Record {
+fn receive_lent(
+    rt: HostRuntime,
+    last: Record,
+    frame: &[u8],
+    arrival_time: u64,
+) -> io::Result<Record> {
     let alone = receive_alone(last, frame, arrival_time);
     let receipt = alone.receipt;
-    show_receipt(receipt, frame, arrival_time);
+    show_receipt(rt, receipt, frame, arrival_time)?;
     let after = alone.after;
-    show_record(0, after);
-    after
+    show_record(rt, 0, after)?;
+    Ok(after)
 }
 
-fn receive_sent(last: Record, id: u64, sequence: u8, dbc: u8) -> Record {
+fn receive_sent(
+    rt: HostRuntime,
+    last: Record,
+    id: u64,
+    sequence: u8,
+    dbc: u8,
+) -> io::Result<Record> {
     let frame = frame_of(id, sequence, dbc);
-    receive_lent(last, &frame, 1000)
+    receive_lent(rt, last, &frame, 1000)
 }
 
-fn receive_cut(last: Record, id: u64, sequence: u8, dbc: u8) -> Record {
+fn receive_cut(
+    rt: HostRuntime,
+    last: Record,
+    id: u64,
+    sequence: u8,
+    dbc: u8,
+) -> io::Result<Record> {
     let frame = frame_of(id, sequence, dbc);
-    receive_lent(last, &frame[0..41], 1000)
+    receive_lent(rt, last, &frame[0..41], 1000)
 }
 
-fn receive_with_qpc_3(last: Record, id: u64, sequence: u8, dbc: u8) -> Record {
+fn receive_with_qpc_3(
+    rt: HostRuntime,
+    last: Record,
+    id: u64,
+    sequence: u8,
+    dbc: u8,
+) -> io::Result<Record> {
     let frame = frame_with_qpc_3(id, sequence, dbc);
-    receive_lent(last, &frame, 1000)
+    receive_lent(rt, last, &frame, 1000)
 }
 
 // Accepted, too short, accepted, of another stream, and repeated.
-fn show_alone() {
-    say(b"# a record lent alone\n");
-    let a = receive_sent(stream::admitted_within(5, LARGEST_LIMIT), 5, 255, 250);
-    let b = receive_cut(a, 5, 0, 2);
-    let c = receive_sent(b, 5, 0, 2);
-    let d = receive_sent(c, 6, 0, 2);
-    receive_sent(d, 5, 0, 2);
+fn show_alone(rt: HostRuntime) -> io::Result<()> {
+    say(rt, b"# a record lent alone\n")?;
+    let a = receive_sent(rt, stream::admitted_within(5, LARGEST_LIMIT), 5, 255, 250)?;
+    let b = receive_cut(rt, a, 5, 0, 2)?;
+    let c = receive_sent(rt, b, 5, 0, 2)?;
+    let d = receive_sent(rt, c, 6, 0, 2)?;
+    receive_sent(rt, d, 5, 0, 2)?;
+    Ok(())
 }
 
 // QPC 3 in a frame of the stream, and in one of another, between two of its own.
-fn show_qpc_3() {
-    say(b"# QPC 3, to a record lent alone\n");
-    let a = receive_sent(stream::admitted_within(5, LARGEST_LIMIT), 5, 255, 250);
-    let b = receive_with_qpc_3(a, 5, 0, 2);
-    let c = receive_with_qpc_3(b, 6, 0, 2);
-    receive_sent(c, 5, 0, 2);
+fn show_qpc_3(rt: HostRuntime) -> io::Result<()> {
+    say(rt, b"# QPC 3, to a record lent alone\n")?;
+    let a = receive_sent(rt, stream::admitted_within(5, LARGEST_LIMIT), 5, 255, 250)?;
+    let b = receive_with_qpc_3(rt, a, 5, 0, 2)?;
+    let c = receive_with_qpc_3(rt, b, 6, 0, 2)?;
+    receive_sent(rt, c, 5, 0, 2)?;
+    Ok(())
 }
 
 // An unused record is no stream's, though it holds the id 0.
-fn show_unused() {
-    say(b"# an unused record lent alone\n");
-    let a = receive_sent(stream::unused(), 5, 1, 2);
-    receive_sent(a, 0, 1, 2);
+fn show_unused(rt: HostRuntime) -> io::Result<()> {
+    say(rt, b"# an unused record lent alone\n")?;
+    let a = receive_sent(rt, stream::unused(), 5, 1, 2)?;
+    receive_sent(rt, a, 0, 1, 2)?;
+    Ok(())
 }
 
 // A frame for a record with this limit. With L 2,147,486,649 its d is 2,147,483,647.
-fn receive_within(limit: u32, arrival_time: u64) {
+fn receive_within(rt: HostRuntime, limit: u32, arrival_time: u64) -> io::Result<()> {
     let frame = frame_of(5, 1, 2);
-    receive_lent(stream::admitted_within(5, limit), &frame, arrival_time);
+    receive_lent(rt, stream::admitted_within(5, limit), &frame, arrival_time)?;
+    Ok(())
 }
 
 // A lent record may hold any number. One above the largest limit acts as none, and stays.
-fn show_limit_alone() {
-    say(b"# a record lent alone, with a limit\n");
-    receive_within(1999, 1000);
-    receive_within(2000, 1000);
-    receive_within(LARGEST_LIMIT - 1, 2_147_486_649);
-    receive_within(LARGEST_LIMIT, 2_147_486_649);
-    receive_within(LARGEST_LIMIT + 1, 2_147_486_649);
-    receive_within(u32::MAX, 2_147_486_649);
-    receive_within(LARGEST_LIMIT + 1, 1000);
-    receive_within(u32::MAX, 1000);
+fn show_limit_alone(rt: HostRuntime) -> io::Result<()> {
+    say(rt, b"# a record lent alone, with a limit\n")?;
+    receive_within(rt, 1999, 1000)?;
+    receive_within(rt, 2000, 1000)?;
+    receive_within(rt, LARGEST_LIMIT - 1, 2_147_486_649)?;
+    receive_within(rt, LARGEST_LIMIT, 2_147_486_649)?;
+    receive_within(rt, LARGEST_LIMIT + 1, 2_147_486_649)?;
+    receive_within(rt, u32::MAX, 2_147_486_649)?;
+    receive_within(rt, LARGEST_LIMIT + 1, 1000)?;
+    receive_within(rt, u32::MAX, 1000)
 }
 
 // ---- Tables of 64 by value
 
 fn receive_at(
+    rt: HostRuntime,
     records: [Record; 64],
     id: u64,
     sequence: u8,
     dbc: u8,
     arrival_time: u64,
-) -> [Record; 64] {
+) -> io::Result<[Record; 64]> {
     let frame = frame_of(id, sequence, dbc);
     let received = table::receive_in(records, &frame, arrival_time);
     let receipt = received.receipt;
-    show_receipt(receipt, &frame, arrival_time);
+    show_receipt(rt, receipt, &frame, arrival_time)?;
     let after = received.table;
-    after
+    Ok(after)
 }
 
-fn receive(records: [Record; 64], id: u64, sequence: u8, dbc: u8) -> [Record; 64] {
-    receive_at(records, id, sequence, dbc, 1000)
+fn receive(
+    rt: HostRuntime,
+    records: [Record; 64],
+    id: u64,
+    sequence: u8,
+    dbc: u8,
+) -> io::Result<[Record; 64]> {
+    receive_at(rt, records, id, sequence, dbc, 1000)
 }
 
-fn admit_within(records: [Record; 64], id: u64, limit: u32) -> [Record; 64] {
+fn admit_within(
+    rt: HostRuntime,
+    records: [Record; 64],
+    id: u64,
+    limit: u32,
+) -> io::Result<[Record; 64]> {
     let changed = table::admit_in(records, id, limit);
     let change = changed.change;
-    show_admission(id, limit, change);
+    show_admission(rt, id, limit, change)?;
     let after = changed.table;
-    after
+    Ok(after)
 }
 
-fn admit(records: [Record; 64], id: u64) -> [Record; 64] {
-    admit_within(records, id, LARGEST_LIMIT)
+fn admit(rt: HostRuntime, records: [Record; 64], id: u64) -> io::Result<[Record; 64]> {
+    admit_within(rt, records, id, LARGEST_LIMIT)
 }
 
-fn remove(records: [Record; 64], id: u64) -> [Record; 64] {
+fn remove(rt: HostRuntime, records: [Record; 64], id: u64) -> io::Result<[Record; 64]> {
     let changed = table::remove_in(records, id);
     let change = changed.change;
-    show_removal(id, change);
+    show_removal(rt, id, change)?;
     let after = changed.table;
-    after
+    Ok(after)
 }
 
-fn show_0_and_1(records: [Record; 64]) {
-    show_record(0, records[0]);
-    show_record(1, records[1]);
+fn show_0_and_1(rt: HostRuntime, records: [Record; 64]) -> io::Result<()> {
+    show_record(rt, 0, records[0])?;
+    show_record(rt, 1, records[1])
 }
 
-fn show_0_to_3(records: [Record; 64]) {
-    show_0_and_1(records);
-    show_record(2, records[2]);
-    show_record(3, records[3]);
+fn show_0_to_3(rt: HostRuntime, records: [Record; 64]) -> io::Result<()> {
+    show_0_and_1(rt, records)?;
+    show_record(rt, 2, records[2])?;
+    show_record(rt, 3, records[3])
 }
 
-fn show_3_and_7(records: [Record; 64]) {
-    show_record(3, records[3]);
-    show_record(7, records[7]);
+fn show_3_and_7(rt: HostRuntime, records: [Record; 64]) -> io::Result<()> {
+    show_record(rt, 3, records[3])?;
+    show_record(rt, 7, records[7])
 }
 
-fn show_31_and_63(records: [Record; 64]) {
-    show_record(31, records[31]);
-    show_record(63, records[63]);
+fn show_31_and_63(rt: HostRuntime, records: [Record; 64]) -> io::Result<()> {
+    show_record(rt, 31, records[31])?;
+    show_record(rt, 63, records[63])
 }
 
 fn one_id_twice() -> [Record; 64] {
@@ -444,27 +499,29 @@ fn one_id_twice() -> [Record; 64] {
 }
 
 // The lower place counts, its limit too, and then the higher one.
-fn show_twice() {
-    say(b"# one id twice\n");
-    let a = receive(one_id_twice(), 5, 10, 20);
-    show_3_and_7(a);
-    let b = remove(admit(a, 5), 5);
-    show_3_and_7(b);
-    let c = remove(receive(b, 5, 11, 24), 5);
-    show_3_and_7(c);
-    remove(c, 5);
+fn show_twice(rt: HostRuntime) -> io::Result<()> {
+    say(rt, b"# one id twice\n")?;
+    let a = receive(rt, one_id_twice(), 5, 10, 20)?;
+    show_3_and_7(rt, a)?;
+    let b = remove(rt, admit(rt, a, 5)?, 5)?;
+    show_3_and_7(rt, b)?;
+    let c = remove(rt, receive(rt, b, 5, 11, 24)?, 5)?;
+    show_3_and_7(rt, c)?;
+    remove(rt, c, 5)?;
+    Ok(())
 }
 
 // An unused record holds no id, not even 0. Both ends of the ids are admitted, and a place is taken again.
-fn show_ids() {
-    say(b"# ids 0 and 18446744073709551615\n");
-    let a = receive(table::unused_table(), 0, 7, 7);
-    let b = admit(admit(admit(a, 0), 0), u64::MAX);
-    let c = receive(receive(b, 0, 255, 250), u64::MAX, 8, 8);
-    show_0_and_1(c);
-    let d = admit(remove(c, 0), 6);
-    show_0_and_1(d);
-    receive(d, 0, 0, 2);
+fn show_ids(rt: HostRuntime) -> io::Result<()> {
+    say(rt, b"# ids 0 and 18446744073709551615\n")?;
+    let a = receive(rt, table::unused_table(), 0, 7, 7)?;
+    let b = admit(rt, admit(rt, admit(rt, a, 0)?, 0)?, u64::MAX)?;
+    let c = receive(rt, receive(rt, b, 0, 255, 250)?, u64::MAX, 8, 8)?;
+    show_0_and_1(rt, c)?;
+    let d = admit(rt, remove(rt, c, 0)?, 6)?;
+    show_0_and_1(rt, d)?;
+    receive(rt, d, 0, 0, 2)?;
+    Ok(())
 }
 
 // Every record is in use. Those with an id of their own are the ones that are looked at.
@@ -475,138 +532,159 @@ fn full() -> [Record; 64] {
     records
 }
 
-fn show_full() {
-    say(b"# a full table\n");
-    let a = admit(admit(full(), 200), 163);
-    let b = receive(a, 163, 1, 1);
-    show_31_and_63(b);
-    let c = admit(admit(remove(b, 131), 200), 201);
-    show_31_and_63(c);
+fn show_full(rt: HostRuntime) -> io::Result<()> {
+    say(rt, b"# a full table\n")?;
+    let a = admit(rt, admit(rt, full(), 200)?, 163)?;
+    let b = receive(rt, a, 163, 1, 1)?;
+    show_31_and_63(rt, b)?;
+    let c = admit(rt, admit(rt, remove(rt, b, 131)?, 200)?, 201)?;
+    show_31_and_63(rt, c)
 }
 
 // ---- Limits
 
 // 24, and 21 before it. A refused admission leaves the table as it was.
-fn show_limits() {
-    say(b"# limits\n");
-    let a = admit_within(table::unused_table(), 1, 0);
-    let b = admit_within(a, 2, 1);
-    let c = admit_within(b, 3, LARGEST_LIMIT);
-    let d = admit_within(c, 4, LARGEST_LIMIT + 1);
-    let e = admit_within(d, 4, u32::MAX);
-    show_0_to_3(e);
-    let f = admit_within(e, 1, LARGEST_LIMIT + 1);
-    let g = admit_within(f, 2, 0);
-    show_0_to_3(g);
+fn show_limits(rt: HostRuntime) -> io::Result<()> {
+    say(rt, b"# limits\n")?;
+    let a = admit_within(rt, table::unused_table(), 1, 0)?;
+    let b = admit_within(rt, a, 2, 1)?;
+    let c = admit_within(rt, b, 3, LARGEST_LIMIT)?;
+    let d = admit_within(rt, c, 4, LARGEST_LIMIT + 1)?;
+    let e = admit_within(rt, d, 4, u32::MAX)?;
+    show_0_to_3(rt, e)?;
+    let f = admit_within(rt, e, 1, LARGEST_LIMIT + 1)?;
+    let g = admit_within(rt, f, 2, 0)?;
+    show_0_to_3(rt, g)
 }
 
 // 22, and 24 before it, and 21 before both.
-fn show_limits_full() {
-    say(b"# limits and a full table\n");
-    let a = admit_within(full(), 200, 0);
-    let b = admit_within(a, 200, LARGEST_LIMIT + 1);
-    let c = admit_within(b, 163, u32::MAX);
-    show_31_and_63(c);
+fn show_limits_full(rt: HostRuntime) -> io::Result<()> {
+    say(rt, b"# limits and a full table\n")?;
+    let a = admit_within(rt, full(), 200, 0)?;
+    let b = admit_within(rt, a, 200, LARGEST_LIMIT + 1)?;
+    let c = admit_within(rt, b, 163, u32::MAX)?;
+    show_31_and_63(rt, c)
 }
 
 // A limit is kept until removal, and the next admission gives another.
-fn show_limit_kept() {
-    say(b"# a limit until removal\n");
-    let a = receive(admit_within(table::unused_table(), 5, 1999), 5, 10, 20);
-    show_record(0, a[0]);
-    let b = remove(a, 5);
-    show_record(0, b[0]);
-    let c = receive(admit_within(b, 5, 2000), 5, 11, 28);
-    show_record(0, c[0]);
+fn show_limit_kept(rt: HostRuntime) -> io::Result<()> {
+    say(rt, b"# a limit until removal\n")?;
+    let a = receive(
+        rt,
+        admit_within(rt, table::unused_table(), 5, 1999)?,
+        5,
+        10,
+        20,
+    )?;
+    show_record(rt, 0, a[0])?;
+    let b = remove(rt, a, 5)?;
+    show_record(rt, 0, b[0])?;
+    let c = receive(rt, admit_within(rt, b, 5, 2000)?, 5, 11, 28)?;
+    show_record(rt, 0, c[0])
 }
 
-fn receive_both(records: [Record; 64], arrival_time: u64) -> [Record; 64] {
-    let a = receive_at(records, 1, 1, 1, arrival_time);
-    receive_at(a, 2, 1, 1, arrival_time)
+fn receive_both(
+    rt: HostRuntime,
+    records: [Record; 64],
+    arrival_time: u64,
+) -> io::Result<[Record; 64]> {
+    let a = receive_at(rt, records, 1, 1, 1, arrival_time)?;
+    receive_at(rt, a, 2, 1, 1, arrival_time)
 }
 
 // Each stream is held to its own limit, with d 2,001, 2,000, 1,999, 1, 0 and -1.
-fn show_two_limits() {
-    say(b"# limits 2000 and 0 side by side\n");
-    let a = admit_within(admit_within(table::unused_table(), 1, 2000), 2, 0);
-    let b = receive_both(receive_both(a, 999), 1000);
-    let c = receive_both(receive_both(b, 1001), 2999);
-    let d = receive_both(receive_both(c, 3000), 3001);
-    show_0_and_1(d);
+fn show_two_limits(rt: HostRuntime) -> io::Result<()> {
+    say(rt, b"# limits 2000 and 0 side by side\n")?;
+    let a = admit_within(rt, admit_within(rt, table::unused_table(), 1, 2000)?, 2, 0)?;
+    let b = receive_both(rt, receive_both(rt, a, 999)?, 1000)?;
+    let c = receive_both(rt, receive_both(rt, b, 1001)?, 2999)?;
+    let d = receive_both(rt, receive_both(rt, c, 3000)?, 3001)?;
+    show_0_and_1(rt, d)
 }
 
 // ---- Frames with and without a CIP header, to a record lent alone
 
-fn judge_lent(last: Record, frame: &[u8]) -> Record {
+fn judge_lent(rt: HostRuntime, last: Record, frame: &[u8]) -> io::Result<Record> {
     let alone = receive_alone(last, frame, 1000);
     let receipt = alone.receipt;
-    show_receipt(receipt, frame, 1000);
-    show_flags(receipt);
+    show_receipt(rt, receipt, frame, 1000)?;
+    show_flags(rt, receipt)?;
     let after = alone.after;
-    show_record(0, after);
-    show_kept(after);
-    after
+    show_record(rt, 0, after)?;
+    show_kept(rt, after)?;
+    Ok(after)
 }
 
-fn judge_deck(last: Record, sequence: u8, dbc: u8) -> Record {
+fn judge_deck(rt: HostRuntime, last: Record, sequence: u8, dbc: u8) -> io::Result<Record> {
     let frame = frame_of(5, sequence, dbc);
-    judge_lent(last, &frame)
+    judge_lent(rt, last, &frame)
 }
 
-fn judge_camera_of(last: Record, id: u64, sequence: u8) -> Record {
+fn judge_camera_of(rt: HostRuntime, last: Record, id: u64, sequence: u8) -> io::Result<Record> {
     let frame = camera_frame(id, sequence);
-    judge_lent(last, &frame)
+    judge_lent(rt, last, &frame)
 }
 
-fn judge_camera(last: Record, sequence: u8) -> Record {
-    judge_camera_of(last, 5, sequence)
+fn judge_camera(rt: HostRuntime, last: Record, sequence: u8) -> io::Result<Record> {
+    judge_camera_of(rt, last, 5, sequence)
 }
 
-fn judge_tag_2(last: Record, sequence: u8, dbc: u8) -> Record {
+fn judge_tag_2(rt: HostRuntime, last: Record, sequence: u8, dbc: u8) -> io::Result<Record> {
     let frame = frame_with_tag_2(5, sequence, dbc);
-    judge_lent(last, &frame)
+    judge_lent(rt, last, &frame)
 }
 
 // The format flag at each change of the tag, and the count kept over two frames without one.
-fn show_both_tags() {
-    say(b"# tags 0, 1, 0, 0, 1, 1\n");
-    let a = judge_camera(stream::admitted_within(5, LARGEST_LIMIT), 255);
-    let b = judge_deck(a, 0, 250);
-    let c = judge_camera(b, 1);
-    let d = judge_camera(c, 2);
-    let e = judge_deck(d, 3, 2);
-    judge_deck(e, 4, 10);
+fn show_both_tags(rt: HostRuntime) -> io::Result<()> {
+    say(rt, b"# tags 0, 1, 0, 0, 1, 1\n")?;
+    let a = judge_camera(rt, stream::admitted_within(5, LARGEST_LIMIT), 255)?;
+    let b = judge_deck(rt, a, 0, 250)?;
+    let c = judge_camera(rt, b, 1)?;
+    let d = judge_camera(rt, c, 2)?;
+    let e = judge_deck(rt, d, 3, 2)?;
+    judge_deck(rt, e, 4, 10)?;
+    Ok(())
 }
 
-fn show_cameras_alone() {
-    say(b"# tag 0 alone: the sequence is judged, and no count\n");
-    let a = judge_camera(stream::admitted_within(5, LARGEST_LIMIT), 254);
-    let b = judge_camera(a, 255);
-    let c = judge_camera(b, 0);
-    judge_camera(c, 2);
+fn show_cameras_alone(rt: HostRuntime) -> io::Result<()> {
+    say(rt, b"# tag 0 alone: the sequence is judged, and no count\n")?;
+    let a = judge_camera(rt, stream::admitted_within(5, LARGEST_LIMIT), 254)?;
+    let b = judge_camera(rt, a, 255)?;
+    let c = judge_camera(rt, b, 0)?;
+    judge_camera(rt, c, 2)?;
+    Ok(())
 }
 
-fn show_first_count() {
-    say(b"# tag 0, then the first count of all, then a wrong one\n");
-    let a = judge_camera(stream::admitted_within(5, LARGEST_LIMIT), 1);
-    let b = judge_deck(a, 2, 200);
-    judge_deck(b, 3, 209);
+fn show_first_count(rt: HostRuntime) -> io::Result<()> {
+    say(
+        rt,
+        b"# tag 0, then the first count of all, then a wrong one\n",
+    )?;
+    let a = judge_camera(rt, stream::admitted_within(5, LARGEST_LIMIT), 1)?;
+    let b = judge_deck(rt, a, 2, 200)?;
+    judge_deck(rt, b, 3, 209)?;
+    Ok(())
 }
 
-fn show_count_kept() {
-    say(b"# the count over a frame with tag 0: right, then wrong\n");
-    let a = judge_deck(stream::admitted_within(5, LARGEST_LIMIT), 1, 10);
-    let b = judge_camera(a, 2);
-    let c = judge_deck(b, 3, 18);
-    let d = judge_camera(c, 4);
-    judge_deck(d, 5, 25);
+fn show_count_kept(rt: HostRuntime) -> io::Result<()> {
+    say(
+        rt,
+        b"# the count over a frame with tag 0: right, then wrong\n",
+    )?;
+    let a = judge_deck(rt, stream::admitted_within(5, LARGEST_LIMIT), 1, 10)?;
+    let b = judge_camera(rt, a, 2)?;
+    let c = judge_deck(rt, b, 3, 18)?;
+    let d = judge_camera(rt, c, 4)?;
+    judge_deck(rt, d, 5, 25)?;
+    Ok(())
 }
 
-fn show_count_0() {
-    say(b"# the count 0 is expected too\n");
-    let a = judge_deck(stream::admitted_within(5, LARGEST_LIMIT), 1, 248);
-    let b = judge_camera(a, 2);
-    judge_deck(b, 3, 1);
+fn show_count_0(rt: HostRuntime) -> io::Result<()> {
+    say(rt, b"# the count 0 is expected too\n")?;
+    let a = judge_deck(rt, stream::admitted_within(5, LARGEST_LIMIT), 1, 248)?;
+    let b = judge_camera(rt, a, 2)?;
+    judge_deck(rt, b, 3, 1)?;
+    Ok(())
 }
 
 // Nothing seen, and yet a count expected after tag 1. No history gives this record.
@@ -618,97 +696,113 @@ fn count_before_all() -> Record {
     record
 }
 
-fn show_count_before_all() {
-    say(b"# a count expected before the first frame: tag 0 first, then tag 1\n");
-    let a = judge_camera(count_before_all(), 1);
-    judge_deck(a, 2, 200);
-    say(b"# the same record: tag 1 first\n");
-    let b = judge_deck(count_before_all(), 1, 200);
-    judge_deck(b, 2, 208);
+fn show_count_before_all(rt: HostRuntime) -> io::Result<()> {
+    say(
+        rt,
+        b"# a count expected before the first frame: tag 0 first, then tag 1\n",
+    )?;
+    let a = judge_camera(rt, count_before_all(), 1)?;
+    judge_deck(rt, a, 2, 200)?;
+    say(rt, b"# the same record: tag 1 first\n")?;
+    let b = judge_deck(rt, count_before_all(), 1, 200)?;
+    judge_deck(rt, b, 2, 208)?;
+    Ok(())
 }
 
 // 12 and 15, each between two frames of the stream.
-fn show_refused_between() {
-    say(b"# refused frames between the tags\n");
-    let a = judge_deck(stream::admitted_within(5, LARGEST_LIMIT), 1, 10);
-    let b = judge_tag_2(a, 2, 99);
-    let c = judge_camera_of(b, 6, 2);
-    let d = judge_camera(c, 2);
-    let e = judge_tag_2(d, 3, 99);
-    judge_deck(e, 3, 18);
+fn show_refused_between(rt: HostRuntime) -> io::Result<()> {
+    say(rt, b"# refused frames between the tags\n")?;
+    let a = judge_deck(rt, stream::admitted_within(5, LARGEST_LIMIT), 1, 10)?;
+    let b = judge_tag_2(rt, a, 2, 99)?;
+    let c = judge_camera_of(rt, b, 6, 2)?;
+    let d = judge_camera(rt, c, 2)?;
+    let e = judge_tag_2(rt, d, 3, 99)?;
+    judge_deck(rt, e, 3, 18)?;
+    Ok(())
 }
 
 // ---- The same to a table by value
 
-fn judge_in(records: [Record; 64], frame: &[u8]) -> [Record; 64] {
+fn judge_in(rt: HostRuntime, records: [Record; 64], frame: &[u8]) -> io::Result<[Record; 64]> {
     let received = table::receive_in(records, frame, 1000);
     let receipt = received.receipt;
-    show_receipt(receipt, frame, 1000);
-    show_flags(receipt);
+    show_receipt(rt, receipt, frame, 1000)?;
+    show_flags(rt, receipt)?;
     let after = received.table;
-    after
+    Ok(after)
 }
 
-fn judge_deck_in(records: [Record; 64], id: u64, sequence: u8, dbc: u8) -> [Record; 64] {
+fn judge_deck_in(
+    rt: HostRuntime,
+    records: [Record; 64],
+    id: u64,
+    sequence: u8,
+    dbc: u8,
+) -> io::Result<[Record; 64]> {
     let frame = frame_of(id, sequence, dbc);
-    judge_in(records, &frame)
+    judge_in(rt, records, &frame)
 }
 
-fn judge_camera_in(records: [Record; 64], id: u64, sequence: u8) -> [Record; 64] {
+fn judge_camera_in(
+    rt: HostRuntime,
+    records: [Record; 64],
+    id: u64,
+    sequence: u8,
+) -> io::Result<[Record; 64]> {
     let frame = camera_frame(id, sequence);
-    judge_in(records, &frame)
+    judge_in(rt, records, &frame)
 }
 
-fn show_kept_0_and_1(records: [Record; 64]) {
-    show_record(0, records[0]);
-    show_kept(records[0]);
-    show_record(1, records[1]);
-    show_kept(records[1]);
+fn show_kept_0_and_1(rt: HostRuntime, records: [Record; 64]) -> io::Result<()> {
+    show_record(rt, 0, records[0])?;
+    show_kept(rt, records[0])?;
+    show_record(rt, 1, records[1])?;
+    show_kept(rt, records[1])
 }
 
 // Each is judged by its own record: the camera's third frame shows a loss, and the deck's a wrong count.
-fn show_side_by_side() {
-    say(b"# tag 0 and tag 1 side by side\n");
-    let a = admit(admit(table::unused_table(), 1), 2);
-    let b = judge_deck_in(judge_camera_in(a, 1, 1), 2, 7, 100);
-    let c = judge_deck_in(judge_camera_in(b, 1, 2), 2, 8, 108);
-    let d = judge_deck_in(judge_camera_in(c, 1, 4), 2, 9, 117);
-    show_kept_0_and_1(d);
+fn show_side_by_side(rt: HostRuntime) -> io::Result<()> {
+    say(rt, b"# tag 0 and tag 1 side by side\n")?;
+    let a = admit(rt, admit(rt, table::unused_table(), 1)?, 2)?;
+    let b = judge_deck_in(rt, judge_camera_in(rt, a, 1, 1)?, 2, 7, 100)?;
+    let c = judge_deck_in(rt, judge_camera_in(rt, b, 1, 2)?, 2, 8, 108)?;
+    let d = judge_deck_in(rt, judge_camera_in(rt, c, 1, 4)?, 2, 9, 117)?;
+    show_kept_0_and_1(rt, d)
 }
 
 // Removal forgets the tag and the count.
-fn show_admitted_again() {
-    say(b"# removed, and admitted again\n");
-    let a = judge_deck_in(admit(table::unused_table(), 5), 5, 1, 10);
-    show_kept(a[0]);
-    let b = remove(a, 5);
-    show_kept(b[0]);
-    let c = judge_camera_in(admit(b, 5), 5, 9);
-    show_kept(c[0]);
-    let d = judge_deck_in(c, 5, 10, 77);
-    show_kept(d[0]);
+fn show_admitted_again(rt: HostRuntime) -> io::Result<()> {
+    say(rt, b"# removed, and admitted again\n")?;
+    let a = judge_deck_in(rt, admit(rt, table::unused_table(), 5)?, 5, 1, 10)?;
+    show_kept(rt, a[0])?;
+    let b = remove(rt, a, 5)?;
+    show_kept(rt, b[0])?;
+    let c = judge_camera_in(rt, admit(rt, b, 5)?, 5, 9)?;
+    show_kept(rt, c[0])?;
+    let d = judge_deck_in(rt, c, 5, 10, 77)?;
+    show_kept(rt, d[0])
 }
 
-fn main() {
-    show_too_long();
-    show_alone();
-    show_qpc_3();
-    show_unused();
-    show_twice();
-    show_ids();
-    show_full();
-    show_limit_alone();
-    show_limits();
-    show_limits_full();
-    show_limit_kept();
-    show_two_limits();
-    show_both_tags();
-    show_cameras_alone();
-    show_first_count();
-    show_count_kept();
-    show_count_0();
-    show_count_before_all();
-    show_refused_between();
-    show_side_by_side();
-    show_admitted_again();
+fn main(rt: HostRuntime) -> io::Result<()> {
+    show_too_long(rt)?;
+    show_alone(rt)?;
+    show_qpc_3(rt)?;
+    show_unused(rt)?;
+    show_twice(rt)?;
+    show_ids(rt)?;
+    show_full(rt)?;
+    show_limit_alone(rt)?;
+    show_limits(rt)?;
+    show_limits_full(rt)?;
+    show_limit_kept(rt)?;
+    show_two_limits(rt)?;
+    show_both_tags(rt)?;
+    show_cameras_alone(rt)?;
+    show_first_count(rt)?;
+    show_count_kept(rt)?;
+    show_count_0(rt)?;
+    show_count_before_all(rt)?;
+    show_refused_between(rt)?;
+    show_side_by_side(rt)?;
+    show_admitted_again(rt)
 }

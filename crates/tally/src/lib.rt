@@ -60,6 +60,7 @@ const UNCLEAR: u8 = 5;
 const FAR: u8 = 6;
 
 // Nothing counted.
+#[tactic(auto, unfolding(crate::specs::Tally::no_tally))]
 pub fn none_yet() -> Tally
     ensures { result ≡ no_tally }
 {
@@ -84,6 +85,7 @@ pub fn none_yet() -> Tally
 }
 
 // A count, one higher where it is wanted and there is room.
+#[tactic(auto, unfolding(crate::specs::Tally::raised))]
 fn raise(wanted: bool, count: u64) -> u64
     ensures { result ≡ raised_if wanted count }
 {
@@ -110,6 +112,7 @@ fn number_of(kind: Kind) -> u8
 }
 
 // Most frames are late or ahead. The others are counted together.
+#[tactic(auto, unfolding(crate::specs::Tally::kinds_after))]
 fn count_kind(kinds: Kinds, kind: Kind) -> Kinds
     ensures { result ≡ kinds_after kind kinds }
 {
@@ -168,6 +171,7 @@ fn greater(a: u32, b: u32) -> u32
 }
 
 // An offset so far above the lowest, where there is room for it among those that are summed.
+#[tactic(auto, unfolding(crate::specs::Tally::sums_after))]
 fn add(sums: Sums, above: u32) -> Sums
     ensures { result ≡ sums_after above sums }
 {
@@ -184,6 +188,7 @@ fn add(sums: Sums, above: u32) -> Sums
 }
 
 // One accepted frame more.
+#[tactic(auto, unfolding(crate::specs::Tally::counted))]
 pub fn count(tally: Tally, timing: Timing) -> Tally
     ensures { result ≡ counted timing tally }
 {

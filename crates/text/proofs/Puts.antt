@@ -1,10 +1,10 @@
 -- What a call leaves, by whether there is room, and one text after another. Assumes nothing.
 use Prim.Native.Nat.{ℕ, ◌+◌, ◌≤◌, ◌<◌}
 use mathlib.Core.Path.{◌≡◌, refl, sym, ap, ◌∙◌}
-use mathlib.Core.Bool.{Bool, true, false, not}
+use mathlib.Core.Bool.{Bool, true, false}
 use mathlib.Core.List.{List, [], ◌++◌}
 use native.Mathlib.Omega.{arith}
-use borrow.Author.Tests.{le-leb, lt-leb, leb-true, leb-false, not-true, not-false}
+use borrow.Author.Tests.{le-leb, lt-leb, leb-true, leb-false}
 use lib.Dec.{leb}
 use lib.ListN.{length, length-append}
 use lib.Seq.{sets, length-sets}
@@ -49,11 +49,11 @@ after_below at text = saturated_below (at + length text)
 
 -- what is known once it was asked whether there is room up to place n in a buffer of so many bytes
 module _ {r : Bool} (n len : ℕ) (asked : r ≡ leb n len) where
-  pub has_room : not r ≡ false → n ≤ len
-  has_room e = leb-true n len (sym asked ∙ not-false r e)
+  pub has_room : r ≡ true → n ≤ len
+  has_room e = leb-true n len (sym asked ∙ e)
 
-  pub lacks_room : not r ≡ true → len < n
-  lacks_room e = leb-false n len (sym asked ∙ not-true r e)
+  pub lacks_room : r ≡ false → len < n
+  lacks_room e = leb-false n len (sym asked ∙ e)
 
 module _ {d d' text : List ℕ} {at r : ℕ} where
   pub put_there : length d ≤ largest → at + length text ≤ length d → d' ≡ sets d at text → r ≡ at + length text → Put d at text d' r

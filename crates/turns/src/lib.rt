@@ -6,7 +6,7 @@ ghost use Rattle.lines.specs.Placing.{line_room};
 ghost use Rattle.turns.specs.Turns.{stage_by, is_going, is_read, started, InPlace, Turned, RecordsListed};
 
 use input::Source;
-use libc::STDOUT_FILENO;
+use std::io::{Read, Write};
 use stream::Record;
 
 // Where a listing stands.
@@ -65,18 +65,25 @@ fn stage_of(source: Source) -> Stage
 }
 
 // Lines go out, where there are any.
-fn write_lines(out: &[u8], end: usize) -> bool
+fn write_lines<W: Write>(writer: &mut W, out: &[u8], end: usize) -> bool
     requires { end ≤ length out.now }
     ensures { end ≡ 0 → result ≡ true }
 {
     if end == 0 {
         return true;
     }
-    io::write_all(STDOUT_FILENO, &out[0..end])
+    writer.write_all(&out[0..end]).is_ok()
 }
 
 // Lists the whole records at the front of what has been read, and writes their lines. Where there is none, reads more.
-fn turn(fd: i32, input: &mut [u8], out: &mut [u8], s: State, shown: bool) -> State
+fn turn<R: Read, W: Write>(
+    reader: &mut R,
+    writer: &mut W,
+    input: &mut [u8],
+    out: &mut [u8],
+    s: State,
+    shown: bool,
+) -> State
     requires { InPlace input.old s }
     ensures { Turned shown input.old out.old s result input.new out.new }
 {
@@ -90,7 +97,7 @@ fn turn(fd: i32, input: &mut [u8], out: &mut [u8], s: State, shown: bool) -> Sta
     let records = progress.records;
     let used = progress.at;
     let next = from + used;
-    if !write_lines(out, put) {
+    if !write_lines(writer, out, put) {
         return State {
             table,
             records,
@@ -108,7 +115,7 @@ fn turn(fd: i32, input: &mut [u8], out: &mut [u8], s: State, shown: bool) -> Sta
             stage: Stage::Going,
         };
     }
-    let filled = input::refill(fd, input, from, have);
+    let filled = input::refill(reader, input, from, have);
     let source = filled.source;
     State {
         table,
@@ -134,37 +141,52 @@ fn start(have: usize, stage: Stage) -> State
 
 // Turn after turn, until nothing is left to list. A proved loop has to end, so the turns are counted down from a number that no run uses
 // up.
-fn all_turns(fd: i32, input: &mut [u8], have: usize, out: &mut [u8], shown: bool) -> State
+fn all_turns<R: Read, W: Write>(
+    rt: HostRuntime,
+    reader: &mut R,
+    writer: &mut W,
+    input: &mut [u8],
+    have: usize,
+    out: &mut [u8],
+    shown: bool,
+) -> State
     requires { (have ≤ length input.old) × (line_room ≤ length out.old) }
     ensures { RecordsListed shown (take have input.old) input.old out.old result input.new out.new }
 {
     let mut s = start(have, Stage::Going);
-    let mut told = progress::start();
+    let mut told = progress::start(rt);
     let mut going = true;
     let mut turns = u64::MAX;
     while turns > 0 && going {
-        s = turn(fd, input, out, s, shown);
+        s = turn(reader, writer, input, out, s, shown);
         let stage = s.stage;
         going = is_going(stage);
-        // after a failure nothing is called that could hide its reason
         if going {
-            told = progress::tell(told, s.records);
+            told = progress::tell(rt, told, s.records);
         }
         turns -= 1;
     }
-    progress::hide(told);
+    progress::hide(rt, told);
     s
 }
 
 // Goes through the records of a capture of which so many bytes stand at the front of the input already, all of it where they are more than it
 // has, and writes their lines to standard output, where they are shown. Where the output has no room for a line, nothing is read and nothing
 // is listed.
-pub fn list_records(fd: i32, input: &mut [u8], have: usize, out: &mut [u8], shown: bool) -> State
+pub fn list_records<R: Read, W: Write>(
+    rt: HostRuntime,
+    reader: &mut R,
+    writer: &mut W,
+    input: &mut [u8],
+    have: usize,
+    out: &mut [u8],
+    shown: bool,
+) -> State
     ensures { RecordsListed shown (take have input.old) input.old out.old result input.new out.new }
 {
     let end = input::least(have, input.len());
     if !lines::roomy(out.len(), 0) {
         return start(end, Stage::CannotWrite);
     }
-    all_turns(fd, input, end, out, shown)
+    all_turns(rt, reader, writer, input, end, out, shown)
 }

@@ -6,8 +6,8 @@ use mathlib.Core.Path.{◌≡◌, refl, subst}
 use Prim.Native.Nat.{ℕ}
 use mathlib.Core.List.{List, [], ◌∷◌}
 use seplogic.Ra.Ura.{Ura}
-use seplogic.Ra.TreeShare.{full_share}
-use mir.Syntax.{Name, named, Ty, Place, Opd as Operand, Body as Code, seq, call}
+use base.Fraction.{full_share}
+use mir.Syntax.{Callee, named, Ty, Place, Opd as Operand, Body as Code, seq, call}
 use mir.Val.{Val, vptr}
 use base.Logic.{ent, sep, ex}
 use base.Fml.{Lft, GName, fsep, fat, flent, flft, fres}
@@ -48,14 +48,14 @@ module _ {M : Type 1} {𝓤 : Ura M} (𝓛 : Logic 𝓤) where
 
   -- the cell of a value that is owned is lent, for any lifetime
   lends_value : (T : RattleType) (l : ℕ) (κ : Lft) (h : T.Denot) (v : Val)
-      → ent 𝓤 (sep 𝓤 (sem 𝓛 (cell_at full_share T.mir (v ∷ []) l 0)) (sem 𝓛 (T.own h (v ∷ []))))
+      → ent 𝓤 (sep 𝓤 (sem 𝓛 (cell_at full_share T.mir (v ∷ []) l 0)) (sem 𝓛 (T.own_val h (v ∷ []))))
       (H.⇛ (ex 𝓤 (λ (δ : GName). sep 𝓤 (sem 𝓛 ((MutRef (named 0) κ T).own_val (Ref T l δ h) (vptr l 0 ∷ []))) (A.lent κ (Body (mem T) l 0 δ)))))
   unfolding part_of
   lends_value T l κ h v =
-      qed 𝓛 (‵ (cell_at full_share T.mir (v ∷ []) l 0) ∷ ‵ (T.own h (v ∷ [])) ∷ []) ∵
-      fjoin ! $ fpack ! (List Val) (λ vs. fsep (cell_at full_share T.mir vs l 0) (T.own h vs)) (v ∷ []) $ by ! (lends_ref 𝓛 T (named 0) κ h l 0)
+      qed 𝓛 (‵ (cell_at full_share T.mir (v ∷ []) l 0) ∷ ‵ (T.own_val h (v ∷ [])) ∷ []) ∵
+      fjoin ! $ fpack ! (List Val) (λ vs. fsep (cell_at full_share T.mir vs l 0) (T.own_val h vs)) (v ∷ []) $ by ! (lends_ref 𝓛 T (named 0) κ h l 0)
 
-module _ {M : Type 1} {𝓤 : Ura M} {𝓛 : Logic 𝓤} {K : Type 0} {Γ : List (Item 𝓤)} {E : Env 𝓤 𝓛.H} {C : Calls 𝓤 𝓛.H} {f : Name} {xs : List Operand} {Λ : Loops 𝓤 𝓛.H} {p : Post 𝓤 𝓛.H} {d : Place} where
+module _ {M : Type 1} {𝓤 : Ura M} {𝓛 : Logic 𝓤} {K : Type 0} {Γ : List (Item 𝓤)} {E : Env 𝓤 𝓛.H} {C : Calls 𝓤 𝓛.H} {f : Callee} {xs : List Operand} {Λ : Loops 𝓤 𝓛.H} {p : Post 𝓤 𝓛.H} {d : Place} where
   open 𝓛 use {H}
 
   pub calls_with_value : K → FmC 𝓤 H 𝓛.laws C → {rest : Code} (c : Contract 𝓤) → Triple 𝓤 (C f) c → (T : RattleType) → Single T.mir → (l : ℕ) (val : T.Denot → Val) → ((z : T.Denot) (vs : List Val) → Is T z vs → vs ≡ val z ∷ []) → Makes 𝓛 T (Is T)

@@ -22,6 +22,7 @@ pub fn starts_with(bytes: &[u8], text: &[u8]) -> bool
 }
 
 // Are they this text, and no more?
+#[tactic(auto, unfolding(crate::specs::Words::same))]
 pub fn same(word: &[u8], text: &[u8]) -> bool
     ensures { result ≡ sameWord text.now word.now }
 {

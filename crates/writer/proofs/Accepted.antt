@@ -1,7 +1,7 @@
 -- What holds of a write that no check refuses. Assumes nothing.
 use Prim.Native.Nat.{ℕ, ◌≤◌}
 use mathlib.Core.Path.{◌≡◌, sym, subst}
-use mathlib.Core.Bool.{true, false, ◌&&◌}
+use mathlib.Core.Bool.{Bool, true, false, ◌&&◌}
 use mathlib.Core.List.{[], ◌∷◌}
 use native.Mathlib.Omega.{arith}
 use borrow.Author.Tests.{ltb-false, not-false}
@@ -58,6 +58,9 @@ pub record CipFit (f : CipFields) : Type 0 where
   pub source : Fit source_row (source_values f)
   pub fraction : Fit fraction_row (fraction_values f)
   pub format : Fit format_row (format_values f)
+
+pub cip_fitting : (g : Given) (has : Bool) → has_cip g.stream.tag ≡ has → Fitting g → Fit (cip_row has) (cip_values g.cip)
+cip_fitting g has e fit = subst (λ (b : Bool). Fit (cip_row b) (cip_values g.cip)) e fit.cip
 
 pub cip_fit : (f : CipFields) → Fit (cip_row true) (cip_values f) → CipFit f
 cip_fit f fit =

@@ -1,22 +1,20 @@
 -- What the verdict of the checks says of a write's answer and of the output. Assumes nothing.
 use Prim.Native.Nat.{ℕ}
-use mathlib.Core.Path.{◌≡◌, refl, sym, ap, ◌∙◌}
+use mathlib.Core.Path.{◌≡◌, refl}
 use mathlib.Core.List.{List, ◌++◌}
 use lib.ListN.{length, drop}
 use Rattle.refusal.specs.declared.Refusal.{Refusal}
-use Rattle.refusal.specs.Refusals.{number_of, verdict_number}
+use Rattle.refusal.specs.Refusals.{number_of}
 use Rattle.refusal.proofs.First.{positive}
 use Rattle.writer.specs.declared.Sender.{Sender}
 use Rattle.writer.specs.declared.Written.TheVariants.{Sent, Refused}
-use Rattle.refusal.specs.declared.Verdict.{Verdict}
-use Rattle.refusal.specs.declared.Verdict.TheVariants as verdict
 use Rattle.writer.specs.declared.given.Given.{Given}
 use Rattle.writer.specs.Frames.{frame_length, frame_bytes}
 use Rattle.writer.specs.Writing.{write_refusal, advanced, write_answer, writing, output}
 
 module _ (s : Sender) (g : Given) (payload out : List ℕ) where
   -- the answer and the output of a write that is refused, and of one that is not
-  refuses : (r : Refusal) → number_of r ≡ write_refusal g (length payload) (length out) → (write_answer (Refused r s) ≡ writing s g payload (length out)) × (out ≡ output s g payload out)
+  pub refuses : (r : Refusal) → number_of r ≡ write_refusal g (length payload) (length out) → (write_answer (Refused r s) ≡ writing s g payload (length out)) × (out ≡ output s g payload out)
   unfolding writing output
   refuses r e = let p = positive r in rw (← e, p.1) (refl, refl)
 
@@ -24,10 +22,3 @@ module _ (s : Sender) (g : Given) (payload out : List ℕ) where
       → (write_answer (Sent t) ≡ writing s g payload (length out)) × (exit ≡ output s g payload out)
   unfolding writing output
   sends e f h = rw (e, f, h) (refl, refl)
-
-  module _ {v : Verdict} (checked : verdict_number v ≡ write_refusal g (length payload) (length out)) where
-    pub refused : {r : Refusal} → v ≡ verdict.Refused r → (write_answer (Refused r s) ≡ writing s g payload (length out)) × (out ≡ output s g payload out)
-    refused {r} z = refuses r (ap verdict_number (sym z) ∙ checked)
-
-    pub allowed : v ≡ verdict.Passed → write_refusal g (length payload) (length out) ≡ 0
-    allowed z = sym checked ∙ ap verdict_number z

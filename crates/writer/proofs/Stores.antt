@@ -2,14 +2,14 @@
 use Prim.Native.Nat.{ℕ, suc, ◌+◌, ◌-◌, ◌/◌, ◌^◌, ◌<◌, ◌≤◌}
 use mathlib.Core.Path.{◌≡◌, refl, sym, ap, subst, ◌∙◌}
 use mathlib.Core.Bool.{Bool}
-use mathlib.Core.List.{List, [], ◌∷◌, ◌++◌, append_assoc, append-nil}
+use mathlib.Core.List.{List, [], ◌∷◌, ◌++◌, append_assoc}
 use native.Mathlib.Nat.{zero-add}
 use native.Mathlib.Omega.{arith}
 use lib.Bits.{bit_and}
-use lib.ListN.{length, take, drop, set, length-drop, drop_of_length-le}
+use lib.ListN.{length, take, drop, set}
 use lib.Pow.{shr-shr}
-use lib.Seq.{sets, sets-eq, length-sets, set_comm, take-length, take_all, take_at, drop_at, drop-drop}
-use borrow.Rule.Slice.PartMut.{put_mid}
+use lib.Seq.{sets, sets-eq, set_comm, take_at, drop_at, drop-drop}
+use borrow.Rule.Slice.PartMut.{put_mid, post_of}
 use Rattle.wire.specs.Bits.{width}
 use Rattle.wire.specs.Numbers.{octets, bytes}
 use Rattle.wire.proofs.Bits.{masked}
@@ -38,16 +38,17 @@ unfolding frame_bytes
 frame_as s g p out has e {o} =
     subst (λ (b : Bool). o ≡ (header_bytes s g (length p) ++ cip_bytes b g.cip s.dbc ++ p) ++ drop (payload_start b + length p) out) (sym e)
 
+-- and the room for it
+pub room_as : (tag n room : ℕ) (has : Bool) → has_cip tag ≡ has → frame_length tag n ≤ room → payload_start has + n ≤ room
+room_as tag n room has e h = subst (λ (b : Bool). payload_start b + n ≤ room) e h
+
 -- a header h of k bytes stored at the front, and a payload p copied to the part behind it
-pub behind : (k : ℕ) (h p out o₁ o₂ : List ℕ) → length h ≡ k → k + length p ≤ length out → o₁ ≡ sets out 0 h
-    → o₂ ≡ take (length p) p ++ drop (length p) (take (length o₁ - k) (drop k o₁))
-    → put_mid k (length o₁ - k) o₁ o₂ ≡ (h ++ p) ++ drop (k + length p) out
+pub behind : (k : ℕ) (h p out o₁ o₂ : List ℕ) → length h ≡ k → k + length p ≤ length out → o₁ ≡ sets out 0 h → o₂ ≡ p
+    → put_mid k (k + length p - k) o₁ o₂ ≡ (h ++ p) ++ drop (k + length p) out
 behind k h p out o₁ o₂ size room stored copied =
     let front : o₁ ≡ h ++ drop k out = stored ∙ rw (sets-eq h out 0 (omega arith), size, zero-add k) in
-    let n : length o₁ ≡ length out = ap length stored ∙ length-sets out 0 h in
     let head : take k o₁ ≡ h = ap (take k) front ∙ take_at h (drop k out) k size in
     let tail : drop k o₁ ≡ drop k out = ap (drop k) front ∙ drop_at h (drop k out) k size in
-    let whole : take (length o₁ - k) (drop k o₁) ≡ drop k out = rw (tail, n) (take_all (length out - k) (drop k out) (rw length-drop (omega arith))) in
-    let back : o₂ ≡ p ++ drop (k + length p) out = rw (copied, take-length p, whole, drop-drop) in
-    let rest : drop (length o₁ - k) (drop k o₁) ≡ [] = drop_of_length-le (drop k o₁) {i = length o₁ - k} (rw length-drop (omega arith)) in
-    rw (head, back, rest, append-nil (p ++ drop (k + length p) out)) (sym (append_assoc h p (drop (k + length p) out)))
+    let n : k + length p - k ≡ length p = omega arith in
+    let rest : post_of k (k + length p - k) o₁ ≡ drop (k + length p) out = rw (n, tail, drop-drop) in
+    rw (head, copied, rest) (sym (append_assoc h p (drop (k + length p) out)))

@@ -62,6 +62,7 @@ fn fits(given: Given) -> bool
 }
 
 // May a frame with these fields and `n` bytes of payload be written into `room` bytes?
+#[tactic(auto, unfolding(refusal::specs::Refusals::first_of, crate::specs::Writing::write_checks, crate::specs::Writing::write_refusal))]
 pub(crate) fn check(given: Given, n: usize, room: usize) -> Verdict
     ensures { verdict_number result ≡ write_refusal given n room }
 {

@@ -24,6 +24,7 @@ fn put(out: &mut [u8], at: usize, k: usize, n: u64)
     }
 }
 
+#[tactic(auto, unfolding(crate::specs::Frames::ethernet_bytes))]
 fn put_ethernet(out: &mut [u8], ethernet: EthernetFields)
     requires { (18 ≤ length out.old) × Fit vlan_row (vlan_values ethernet) }
     ensures { out.new ≡ sets out.old 0 (ethernet_bytes ethernet) }
@@ -35,6 +36,7 @@ fn put_ethernet(out: &mut [u8], ethernet: EthernetFields)
     put(out, 16, 2, 0x22f0);
 }
 
+#[tactic(auto, unfolding(crate::specs::Frames::avtp_bytes))]
 fn put_avtp(out: &mut [u8], sequence: u8, avtp: AvtpFields)
     requires { 22 ≤ length out.old }
     ensures { out.new ≡ sets out.old 18 (avtp_bytes sequence avtp) }
@@ -46,6 +48,7 @@ fn put_avtp(out: &mut [u8], sequence: u8, avtp: AvtpFields)
     put(out, 21, 1, rows::uncertain(avtp));
 }
 
+#[tactic(auto, unfolding(crate::specs::Frames::stream_bytes))]
 fn put_stream(out: &mut [u8], stream: StreamFields, data_length: usize)
     requires { (42 ≤ length out.old) × Fit packet_row (packet_values stream) }
     ensures { out.new ≡ sets out.old 22 (stream_bytes stream data_length) }
@@ -57,6 +60,7 @@ fn put_stream(out: &mut [u8], stream: StreamFields, data_length: usize)
     put(out, 40, 2, rows::packet(stream));
 }
 
+#[tactic(auto, unfolding(crate::specs::Frames::source_bytes))]
 fn put_source(out: &mut [u8], cip: CipFields, dbc: u8)
     requires { (46 ≤ length out.old) × Fit source_row (source_values cip) × Fit fraction_row (fraction_values cip) }
     ensures { out.new ≡ sets out.old 42 (source_bytes cip dbc) }
@@ -67,6 +71,7 @@ fn put_source(out: &mut [u8], cip: CipFields, dbc: u8)
     put(out, 45, 1, dbc as u64);
 }
 
+#[tactic(auto, unfolding(crate::specs::Frames::format_bytes))]
 fn put_format(out: &mut [u8], cip: CipFields)
     requires { (50 ≤ length out.old) × Fit format_row (format_values cip) }
     ensures { out.new ≡ sets out.old 46 (format_bytes cip) }
@@ -84,6 +89,7 @@ pub(crate) fn cip_length(tag: u8) -> usize
 }
 
 // The 42 bytes with which every frame starts, for `n` bytes of payload.
+#[tactic(auto, unfolding(crate::specs::Frames::ethernet_bytes, crate::specs::Frames::avtp_bytes, crate::specs::Frames::stream_bytes, crate::specs::Frames::header_bytes))]
 fn put_header(out: &mut [u8], sender: Sender, given: Given, n: usize)
     requires in_bounds { (42 ≤ length out.old) × (n ≤ 1476) }
     requires fit { Fit vlan_row (vlan_values given.ethernet) × Fit packet_row (packet_values given.stream) }
@@ -95,6 +101,7 @@ fn put_header(out: &mut [u8], sender: Sender, given: Given, n: usize)
     put_stream(out, given.stream, n + cip_length(given.stream.tag));
 }
 
+#[tactic(auto, unfolding(crate::specs::Frames::source_bytes, crate::specs::Frames::format_bytes))]
 fn put_cip(out: &mut [u8], cip: CipFields, dbc: u8)
     requires { (50 ≤ length out.old) × Fit source_row (source_values cip) × Fit fraction_row (fraction_values cip) × Fit format_row (format_values cip) }
     ensures { out.new ≡ sets out.old 42 (cip_bytes true cip dbc) }
@@ -112,9 +119,9 @@ pub(crate) fn put_frame(sender: Sender, given: Given, payload: &[u8], out: &mut 
 {
     put_header(out, sender, given, payload.len());
     if given.stream.tag != 1 {
-        bytes::copy(payload, &mut out[42..]);
+        out[42..42 + payload.len()].copy_from_slice(payload);
         return;
     }
     put_cip(out, given.cip, sender.dbc);
-    bytes::copy(payload, &mut out[50..]);
+    out[50..50 + payload.len()].copy_from_slice(payload);
 }

@@ -2,6 +2,7 @@
 use crate::show;
 use frame::Reading;
 use frame::layout::Fields;
+use std::io;
 use writer::given::{AvtpFields, CipFields, EthernetFields, Given, StreamFields};
 use writer::{Sender, Written};
 
@@ -76,25 +77,31 @@ fn same_again(frame: &[u8]) -> bool {
             if 1600 < n {
                 return false;
             }
-            check::same(&out[0..n], frame) & show::untouched(&out, n)
+            (&out[0..n] == frame) & show::untouched(&out, n)
         }
     }
 }
 
-pub(crate) fn again(name: &[u8], sender: Sender, given: Given, n: usize) {
+pub(crate) fn again(
+    rt: HostRuntime,
+    name: &[u8],
+    sender: Sender,
+    given: Given,
+    n: usize,
+) -> io::Result<()> {
     if 1476 < n {
-        return;
+        return Ok(());
     }
     let payload = [0x5a; 1600];
     let mut out = show::blank();
     let end = show::payload_start(given.stream.tag) + n;
-    show::text(name);
+    show::text(rt, name)?;
     match writer::write(sender, given, &payload[0..n], &mut out) {
-        Written::Refused(_, _) => show::text(b": REFUSED"),
+        Written::Refused(_, _) => show::text(rt, b": REFUSED")?,
         Written::Sent(_) => {
-            show::text(b":");
-            show::verdict(same_again(&out[0..end]));
+            show::text(rt, b":")?;
+            show::verdict(rt, same_again(&out[0..end]))?;
         }
     }
-    show::text(b"\n");
+    show::text(rt, b"\n")
 }

@@ -3,43 +3,44 @@ ghost use Rattle.std.specs.Prelude.{length, ◌≡◌, ◌≤◌};
 
 use crate::agree;
 use frame::Reading;
-use libc::STDOUT_FILENO;
+use std::io;
 use writer::given::Given;
 use writer::{Sender, Written};
 
-pub(crate) fn text(s: &[u8]) {
-    io::write_all(STDOUT_FILENO, s);
+pub(crate) fn text(rt: HostRuntime, s: &[u8]) -> io::Result<()> {
+    rt.write_all(s)
 }
 
-fn decimal(n: u64) {
-    io::print_decimal(STDOUT_FILENO, n);
+fn decimal(rt: HostRuntime, n: u64) -> io::Result<()> {
+    print!(rt; "{n}")
 }
 
-fn hex(n: u64, digits: usize) {
-    io::print_hex(STDOUT_FILENO, n, digits);
+fn hex(rt: HostRuntime, n: u64, digits: usize) -> io::Result<()> {
+    print!(rt; "{n:0digits$x}")
 }
 
-fn answer(number: u8, sender: Sender) {
-    text(b": ");
-    decimal(number as u64);
-    text(b" next ");
-    decimal(sender.sequence as u64);
-    text(b" ");
-    decimal(sender.dbc as u64);
+fn answer(rt: HostRuntime, number: u8, sender: Sender) -> io::Result<()> {
+    text(rt, b": ")?;
+    decimal(rt, number as u64)?;
+    text(rt, b" next ")?;
+    decimal(rt, sender.sequence as u64)?;
+    text(rt, b" ")?;
+    decimal(rt, sender.dbc as u64)
 }
 
 // The 42 bytes with which every frame starts, and the 8 of a CIP header.
-fn header(tag: u8, out: &[u8]) {
-    text(b" header ");
-    hex(wire::be64(out, 0), 16);
-    hex(wire::be64(out, 8), 16);
-    hex(wire::be64(out, 16), 16);
-    hex(wire::be64(out, 24), 16);
-    hex(wire::be64(out, 32), 16);
-    hex(wire::be16(out, 40) as u64, 4);
+fn header(rt: HostRuntime, tag: u8, out: &[u8]) -> io::Result<()> {
+    text(rt, b" header ")?;
+    hex(rt, wire::be64(out, 0), 16)?;
+    hex(rt, wire::be64(out, 8), 16)?;
+    hex(rt, wire::be64(out, 16), 16)?;
+    hex(rt, wire::be64(out, 24), 16)?;
+    hex(rt, wire::be64(out, 32), 16)?;
+    hex(rt, wire::be16(out, 40) as u64, 4)?;
     if tag == 1 {
-        hex(wire::be64(out, 42), 16);
+        hex(rt, wire::be64(out, 42), 16)?;
     }
+    Ok(())
 }
 
 // Where the payload starts.
@@ -49,12 +50,13 @@ pub(crate) fn payload_start(tag: u8) -> usize
     if tag == 1 { 50 } else { 42 }
 }
 
-pub(crate) fn verdict(same: bool) {
+pub(crate) fn verdict(rt: HostRuntime, same: bool) -> io::Result<()> {
     if same {
-        text(b" same");
+        text(rt, b" same")?;
     } else {
-        text(b" DIFFERENT");
+        text(rt, b" DIFFERENT")?;
     }
+    Ok(())
 }
 
 // What stands in the output at first.
@@ -74,68 +76,88 @@ pub(crate) fn untouched(out: &[u8], from: usize) -> bool {
     if 1600 < end {
         return false;
     }
-    check::same(&out[from..end], &before[from..end])
+    out[from..end] == before[from..end]
 }
 
 // A frame that was written: its header, and whether its fields, its payload and what stands behind it are the same.
-fn sent(sender: Sender, given: Given, payload: &[u8], out: &[u8]) {
+fn sent(
+    rt: HostRuntime,
+    sender: Sender,
+    given: Given,
+    payload: &[u8],
+    out: &[u8],
+) -> io::Result<()> {
     let tag = given.stream.tag;
     let start = payload_start(tag);
     let n = payload.len();
     if 1476 < n {
-        return;
+        return Ok(());
     }
     let end = start + n;
     if out.len() < end {
-        return;
+        return Ok(());
     }
-    header(tag, out);
+    header(rt, tag, out)?;
     let written = &out[0..end];
     let Reading::Accepted(fields) = frame::read(written) else {
-        text(b" REFUSED\n");
-        return;
+        text(rt, b" REFUSED\n")?;
+        return Ok(());
     };
-    text(b" fields");
-    verdict(agree::fields(fields, sender, given, end - 42));
-    text(b" payload");
-    verdict(check::same(frame::payload(written), payload));
-    text(b" behind");
-    verdict(untouched(out, end));
-    text(b"\n");
+    text(rt, b" fields")?;
+    verdict(rt, agree::fields(fields, sender, given, end - 42))?;
+    text(rt, b" payload")?;
+    verdict(rt, frame::payload(written) == payload)?;
+    text(rt, b" behind")?;
+    verdict(rt, untouched(out, end))?;
+    text(rt, b"\n")
 }
 
-fn refused(out: &[u8]) {
-    text(b" output");
-    verdict(untouched(out, 0));
-    text(b"\n");
+fn refused(rt: HostRuntime, out: &[u8]) -> io::Result<()> {
+    text(rt, b" output")?;
+    verdict(rt, untouched(out, 0))?;
+    text(rt, b"\n")
 }
 
 // Writes and shows, and answers the sender afterwards.
-fn shown(name: &[u8], sender: Sender, given: Given, payload: &[u8], out: &mut [u8]) -> Sender {
-    text(name);
-    match writer::write(sender, given, payload, out) {
+fn shown(
+    rt: HostRuntime,
+    name: &[u8],
+    sender: Sender,
+    given: Given,
+    payload: &[u8],
+    out: &mut [u8],
+) -> io::Result<Sender> {
+    text(rt, name)?;
+    Ok(match writer::write(sender, given, payload, out) {
         Written::Sent(next) => {
-            answer(0, next);
-            sent(sender, given, payload, out);
+            answer(rt, 0, next)?;
+            sent(rt, sender, given, payload, out)?;
             next
         }
         Written::Refused(refusal, kept) => {
-            answer(refusal::number(refusal), kept);
-            refused(out);
+            answer(rt, refusal::number(refusal), kept)?;
+            refused(rt, out)?;
             kept
         }
-    }
+    })
 }
 
 // The same with a payload of `n` bytes and an output of `room` bytes, both at most 1,600.
-pub(crate) fn show(name: &[u8], sender: Sender, given: Given, n: usize, room: usize) -> Sender {
+pub(crate) fn show(
+    rt: HostRuntime,
+    name: &[u8],
+    sender: Sender,
+    given: Given,
+    n: usize,
+    room: usize,
+) -> io::Result<Sender> {
     if 1600 < n {
-        return sender;
+        return Ok(sender);
     }
     if 1600 < room {
-        return sender;
+        return Ok(sender);
     }
     let payload = [0x5a; 1600];
     let mut out = blank();
-    shown(name, sender, given, &payload[0..n], &mut out[0..room])
+    shown(rt, name, sender, given, &payload[0..n], &mut out[0..room])
 }

@@ -1,0 +1,8 @@
+use Rattle.cycle.proofs.Offsets.{late, ahead}
+use Rattle.cycle.proofs.judgement.reckon.Goals as goal
+
+pub returns-then-distance-lt-HALF_WRAP : goal.returns-then-distance-lt-HALF_WRAP
+returns-then-distance-lt-HALF_WRAP c = late c.args.tick c.args.due c.if-distance-lt-HALF_WRAP.true
+
+pub returns : goal.returns
+returns c = ahead c.args.tick c.args.due c.if-distance-lt-HALF_WRAP.false
