@@ -1,6 +1,7 @@
 // A reader or a writer that keeps why it failed.
-ghost use Rattle.std.specs.Prelude.{◌≡◌, Some, IfSome, IfErr, OnOk};
+ghost use Rattle.std.specs.Prelude.{◌≡◌, None, Some, IfErr, MatchOption, OnOk};
 ghost use Rattle.std.specs.Io.{ReadsAtMost, WritesAtMost};
+ghost use Rattle.std.specs.IoError.{error_kind};
 ghost use Rattle.std.specs.Io.KnownBytes.{ReadConsumes, WriteAppends, Keeps, Appends};
 
 use std::io;
@@ -15,14 +16,14 @@ pub struct Noting<S> {
 
 impl<S> Noting<S> {
     pub fn new(stream: S) -> Noting<S>
-        ensures { result.stream ≡ stream }
+        ensures { result ≡ record { stream = stream; why = None } }
     {
         Noting { stream, why: None }
     }
 
-    // Why the last call that failed did.
+    // Why the last call that failed did; where none has, another reason than the system's.
     pub fn why(&self) -> Error
-        ensures { IfSome self.now.why (λ e. result ≡ e) }
+        ensures { MatchOption self.now.why (error_kind result ≡ ErrorKind.Other) (λ e. result ≡ e) }
     {
         self.why.unwrap_or(Error::from(ErrorKind::Other))
     }
