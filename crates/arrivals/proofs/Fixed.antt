@@ -11,9 +11,9 @@ use lib.ListN.{length, get_elem?}
 use Rattle.stream.specs.declared.Record.{Record}
 use Rattle.stream.specs.Answers.{Answer, id_of}
 use Rattle.table.specs.Table.{Table, holds, any, place, number_with}
-use Rattle.arrivals.specs.Arrivals.{Arrival, is_accepted, of_stream, StreamRecord, answers_to, Claim}
+use Rattle.arrivals.specs.Arrivals.{Arrival, is_accepted, of_stream, StreamRecord, answers_to, Claim, run, ListsOfArrivals}
 use Rattle.arrivals.proofs.Places.{held, stream_place, place_stream}
-use Rattle.arrivals.proofs.Claim.{of_stream_lem}
+use Rattle.arrivals.proofs.Claim.{of_stream_lem, over_a_table, over_a_record}
 
 -- lists with the same element at every place
 same_places : {A : Type 0} (l m : List A) → ((i : ℕ) → get_elem? l i ≡ get_elem? m i) → l ≡ m
@@ -119,3 +119,12 @@ module _ (t : Table) where
       (λ h. p.other_records l i h ∙ sym (q.other_records l i h))
       (get_elem? t i) refl) in
       λ i. (answers i, records i)
+
+-- the claim, of a table and of a record lent alone, and that it leaves nothing open
+pub lists_of_arrivals : ListsOfArrivals
+lists_of_arrivals =
+    record {
+      over_a_table = over_a_table;
+      over_a_record = over_a_record;
+      nothing_open = λ t go claim l. agree t go (run t) claim (over_a_table t) l;
+    }

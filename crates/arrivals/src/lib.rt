@@ -6,11 +6,13 @@ ghost use Rattle.arrivals.specs.Arrivals.{ListsOfArrivals};
 ghost use Rattle.arrivals.specs.Limits.{OwnLimits};
 ghost use Rattle.arrivals.specs.Listener.{Listener};
 
+#[tactic(auto, using(crate::proofs::Fixed::lists_of_arrivals))]
 fn lists_of_arrivals()
     ensures { ListsOfArrivals }
 {}
 
 // Only a stream's own answers read its limit, and no arrival changes one.
+#[tactic(auto, using(crate::proofs::Limits::own_limits))]
 fn own_limits()
     ensures { OwnLimits }
 {}

@@ -1,29 +1,13 @@
 // What the program says of itself.
-use std::io::Write;
+use program::Texts;
 
-pub(crate) fn show_version(rt: HostRuntime) {
-    messages::write(
-        &mut rt.stdout(),
-        &mut rt.stderr(),
-        b"avtp_list",
-        b"avtp_list 1.6\n",
-    );
-}
-
-// No capture is named, and standard input is a terminal.
-pub(crate) fn show_usage(rt: HostRuntime) {
-    let _ = rt.stderr().write_all(
-        b"usage: avtp_list [FILE..]\n\
+pub(crate) fn texts() -> Texts {
+    Texts {
+        name: b"avtp_list",
+        version: b"avtp_list 1.6\n",
+        usage: b"usage: avtp_list [FILE..]\n\
         avtp_list --help says more.\n",
-    );
-}
-
-pub(crate) fn show_help(rt: HostRuntime) {
-    messages::write(
-        &mut rt.stdout(),
-        &mut rt.stderr(),
-        b"avtp_list",
-        b"usage: avtp_list [FILE..]\n\
+        help: b"usage: avtp_list [FILE..]\n\
         \n\
         Lists captures of AVTP streams, one after the other: for each a first line, a\n\
         line for each record, and an end line. Each starts with no stream admitted.\n\
@@ -49,5 +33,5 @@ pub(crate) fn show_help(rt: HostRuntime) {
         pipe leaves). What went wrong is said on standard error, and only a capture\n\
         that was read to its end has a line that starts with \"end\": a script looks for\n\
         one such line for each capture.\n",
-    );
+    }
 }

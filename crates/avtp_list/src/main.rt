@@ -7,185 +7,134 @@ ghost use Rattle.std.specs.Prelude.{◌≡◌, ◌≤◌, ltb};
 ghost use Rattle.lines.specs.Lines.{start_line, ending};
 ghost use Rattle.lines.specs.Placing.{line_at};
 
-use input::opening;
-use lines::Placed;
 use messages::noting::Noting;
-use options::{Request, Word};
-use std::io::{IsTerminal, Read, Stdout};
+use options::Request;
+use program::{Program, Speaker, Visit};
+use std::io;
+use std::io::{Error, ErrorKind, IsTerminal, Read, Stdout};
 use turns::{Stage, State};
 
-// Text that was put into a buffer goes out.
-fn write_line(rt: HostRuntime, placed: Placed, out: &[u8]) -> bool {
-    match placed {
-        Placed::UpTo(end) => {
-            if end <= out.len() {
-                return messages::write(
-                    &mut rt.stdout(),
-                    &mut rt.stderr(),
-                    b"avtp_list",
-                    &out[0..end],
-                );
-            }
-            false
-        }
-        Placed::NoRoom => false,
+// Text that was put into a buffer goes out, up to a place. Where it had no room, which no buffer of this size gives, nothing is said.
+fn write_lines(
+    rt: HostRuntime,
+    voice: &mut Speaker,
+    out: &[u8],
+    end: Option<usize>,
+) -> io::Result<()>
+    ensures { voice.new.program ≡ voice.old.program }
+{
+    match end {
+        Some(end) if end <= out.len() => voice.write(&mut rt.stdout(), &out[..end]),
+        _ => Err(Error::from(ErrorKind::WriteZero)),
     }
 }
 
-fn write_start(rt: HostRuntime, out: &mut [u8]) -> bool
-    ensures { out.new ≡ (line_at out.old 0 start_line).buffer }
+fn write_start(rt: HostRuntime, voice: &mut Speaker, out: &mut [u8]) -> io::Result<()>
+    ensures line { out.new ≡ (line_at out.old 0 start_line).buffer }
+    ensures program { voice.new.program ≡ voice.old.program }
 {
-    let line = lines::put_start(out, 0);
-    write_line(rt, line, out)
+    let end = lines::put_start(out, 0);
+    write_lines(rt, voice, out, end)
 }
 
 // The bytes that are left at the end, if any, are a record that the capture ends in.
-fn write_ending(rt: HostRuntime, out: &mut [u8], records: u64, left: usize) -> bool
-    ensures { out.new ≡ (line_at out.old 0 (ending (ltb 0 left) records)).buffer }
+fn write_ending(
+    rt: HostRuntime,
+    voice: &mut Speaker,
+    out: &mut [u8],
+    records: u64,
+    left: usize,
+) -> io::Result<()>
+    ensures line { out.new ≡ (line_at out.old 0 (ending (ltb 0 left) records)).buffer }
+    ensures program { voice.new.program ≡ voice.old.program }
 {
-    let lines = lines::put_ending(out, 0, left, records);
-    write_line(rt, lines, out)
+    let end = lines::put_ending(out, 0, left, records);
+    write_lines(rt, voice, out, end)
 }
 
-// The end of a listing. After a failure there is no last line. Answers whether the run goes on.
+// The end of a listing. After a failure there is no last line.
 fn finish<R>(
     rt: HostRuntime,
+    voice: &mut Speaker,
     reader: &Noting<R>,
     writer: &Noting<Stdout>,
     name: &[u8],
     out: &mut [u8],
-    s: State,
-) -> bool
-    requires { s.from ≤ s.have }
+    s: &State,
+) -> io::Result<()>
+    requires { s.now.from ≤ s.now.have }
+    ensures { voice.new.program ≡ voice.old.program }
 {
-    let stage = s.stage;
-    match stage {
-        Stage::Going => {
-            messages::say(
-                &mut rt.stderr(),
-                out,
-                b"avtp_list",
-                name,
-                b"not listed to its end",
-            );
-            true
+    if s.stage == Stage::AllRead {
+        return write_ending(rt, voice, out, s.records, s.have - s.from);
+    }
+    program::tell_end(
+        voice,
+        reader,
+        writer,
+        name,
+        s.stage,
+        b"not listed to its end",
+    )
+}
+
+#[derive(Clone, Copy)]
+struct List {
+    // Is a terminal told the name of each capture?
+    say_name: bool,
+}
+
+impl Visit for List {
+    // A whole capture, from its first line to its last. What cannot be read at all has no first line.
+    fn visit<R: Read + Drop>(
+        &self,
+        rt: HostRuntime,
+        voice: &mut Speaker,
+        reader: R,
+        name: &[u8],
+    ) -> io::Result<()> {
+        let mut reader = Noting::new(reader);
+        let mut input = input::buffer();
+        let Some(have) = program::first(voice, &mut reader, &mut input, name) else {
+            return Ok(());
+        };
+        if self.say_name {
+            voice.say(name, b"listing");
         }
-        Stage::AllRead => write_ending(rt, out, s.records, s.have - s.from),
-        Stage::CannotRead => {
-            messages::fail(&mut rt.stderr(), out, b"avtp_list", name, reader.why());
-            true
+        if let Some(format) = formats::recognise(&input[..have]) {
+            voice.say(name, formats::said(format));
         }
-        Stage::CannotWrite => {
-            messages::fail_output(&mut rt.stderr(), out, b"avtp_list", writer.why());
-            false
-        }
+        let mut out = [0u8; 65536];
+        write_start(rt, voice, &mut out)?;
+        let mut writer = Noting::new(rt.stdout());
+        let s = turns::list_records(
+            rt,
+            &mut reader,
+            &mut writer,
+            &mut input,
+            have,
+            &mut out,
+            true,
+        );
+        finish(rt, voice, &reader, &writer, name, &mut out, &s)
     }
 }
 
-// What is said of a capture before its listing: its name, and that it looks like something else.
-fn introduce(rt: HostRuntime, room: &mut [u8], name: &[u8], say_name: bool, first: &[u8]) {
-    let mut errors = rt.stderr();
-    let format = formats::recognise(first);
-    if !say_name {
-        formats::hint(&mut errors, room, b"avtp_list", name, format);
-        return;
-    }
-    messages::say(&mut errors, room, b"avtp_list", name, b"listing");
-    formats::hint(&mut errors, room, b"avtp_list", name, format);
-}
-
-// A whole capture, from its first line to its last. What cannot be read at all has no first line. Answers whether the run goes on.
-fn list<R: Read + Drop>(rt: HostRuntime, reader: R, name: &[u8], say_name: bool) -> bool {
-    let mut reader = Noting::new(reader);
-    let mut input = input::buffer();
-    let mut out = [0u8; 65536];
-    let first = input::first(&mut reader, &mut input, 4);
-    let source = first.source;
-    let have = first.end;
-    if input::has_failed(source) && have == 0 {
-        messages::fail(&mut rt.stderr(), &mut out, b"avtp_list", name, reader.why());
-        return true;
-    }
-    introduce(rt, &mut out, name, say_name, &input[0..have]);
-    if !write_start(rt, &mut out) {
-        return false;
-    }
-    let mut writer = Noting::new(rt.stdout());
-    let s = turns::list_records(
-        rt,
-        &mut reader,
-        &mut writer,
-        &mut input,
-        have,
-        &mut out,
-        true,
-    );
-    finish(rt, &reader, &writer, name, &mut out, s)
-}
-
-fn list_named(rt: HostRuntime, name: &[u8], say_name: bool) -> bool {
-    if options::is_dash(name) {
-        return list(rt, rt.stdin(), b"standard input", say_name);
-    }
-    match opening::open(&rt, name) {
-        Ok(file) => list(rt, file, name, say_name),
-        Err(why) => {
-            let mut room = [0u8; 65536];
-            messages::fail(&mut rt.stderr(), &mut room, b"avtp_list", name, why);
-            true
+impl Program for List {
+    // The captures that are named, by every argument but `--`. Where there are several, a terminal is told the name of each.
+    fn visit_named(&self, rt: HostRuntime, voice: &mut Speaker, request: Request, names: usize) {
+        let list = List {
+            say_name: names > 1 && rt.stderr().is_terminal(),
+        };
+        for i in 1..request.count {
+            let skipped = request.first.is_some_and(|(at, _)| at == i);
+            if !skipped && program::argument(&list, rt, voice, i).is_err() {
+                return;
+            }
         }
     }
-}
-
-fn list_argument(rt: HostRuntime, i: usize, say_name: bool) -> bool {
-    let mut room = [0u8; 4096];
-    let n = options::argument(&rt, i, &mut room);
-    list_named(rt, &room[..n], say_name)
-}
-
-// The captures that are named, by every argument but `--`. Where there are several, a terminal is told the name of each.
-fn list_names(rt: HostRuntime, request: Request, names: usize) {
-    let say_name = names > 1 && rt.stderr().is_terminal();
-    let count = request.count;
-    let skipped = request.at;
-    for i in 1..count {
-        if i != skipped && !list_argument(rt, i, say_name) {
-            return;
-        }
-    }
-}
-
-// No capture is named: standard input, unless that waits for keys.
-fn list_input(rt: HostRuntime) {
-    if rt.stdin().is_terminal() {
-        help::show_usage(rt);
-        return;
-    }
-    list(rt, rt.stdin(), b"standard input", false);
-}
-
-fn run(rt: HostRuntime, request: Request) {
-    let names = options::name_count(request);
-    if names == 0 {
-        list_input(rt);
-        return;
-    }
-    list_names(rt, request, names);
-}
-
-fn refuse(rt: HostRuntime, at: usize) {
-    let mut room = [0u8; 65536];
-    options::refuse(&rt, &mut rt.stderr(), &mut room, b"avtp_list", at);
 }
 
 fn main(rt: HostRuntime) {
-    let request = options::read_request(&rt);
-    let word = request.word;
-    match word {
-        Word::Help => help::show_help(rt),
-        Word::Version => help::show_version(rt),
-        Word::Unknown => refuse(rt, request.at),
-        Word::Name => run(rt, request),
-        Word::Rest => run(rt, request),
-    }
+    program::start(&List { say_name: false }, rt, help::texts());
 }

@@ -1,29 +1,13 @@
 // What the program says of itself.
-use std::io::Write;
+use program::Texts;
 
-pub(crate) fn show_version(rt: HostRuntime) {
-    messages::write(
-        &mut rt.stdout(),
-        &mut rt.stderr(),
-        b"avtp_report",
-        b"avtp_report 1.5\n",
-    );
-}
-
-// No capture is named, and standard input is a terminal.
-pub(crate) fn show_usage(rt: HostRuntime) {
-    let _ = rt.stderr().write_all(
-        b"usage: avtp_report [FILE]\n\
+pub(crate) fn texts() -> Texts {
+    Texts {
+        name: b"avtp_report",
+        version: b"avtp_report 1.5\n",
+        usage: b"usage: avtp_report [FILE]\n\
         avtp_report --help says more.\n",
-    );
-}
-
-pub(crate) fn show_help(rt: HostRuntime) {
-    messages::write(
-        &mut rt.stdout(),
-        &mut rt.stderr(),
-        b"avtp_report",
-        b"usage: avtp_report [FILE]\n\
+        help: b"usage: avtp_report [FILE]\n\
         \n\
         Prints the visit report of a capture of AVTP streams: a line for each stream\n\
         that it admits, in their order, and no other line. Without FILE, or where FILE\n\
@@ -51,5 +35,5 @@ pub(crate) fn show_help(rt: HostRuntime) {
         The exit status is 0 in every case (signals aside, as where the reader of a\n\
         pipe leaves). What went wrong is said on standard error; where not all could\n\
         be read, no line is printed.\n",
-    );
+    }
 }

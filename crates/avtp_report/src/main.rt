@@ -3,13 +3,14 @@
 
 mod help;
 
-ghost use Rattle.std.specs.Prelude.{◌≤◌, length, take};
+ghost use Rattle.std.specs.Prelude.{◌≡◌, ◌≤◌, length, take};
 ghost use Rattle.avtp_report.specs.Reporting.{Reports};
 
-use input::opening;
 use messages::noting::Noting;
-use options::{Request, Word};
-use std::io::{IsTerminal, Read, Stdout, Write};
+use options::Request;
+use program::{Program, Speaker, Visit};
+use std::io;
+use std::io::{Read, Stdout, Write};
 use turns::Stage;
 
 // A report in a buffer: where the capture stands, and the place after the text; 0 where not all could be read.
@@ -36,144 +37,79 @@ fn report_records<R: Read, W: Write>(
     if !turns::is_read(stage) {
         return Reported { stage, end: 0 };
     }
-    let table = s.table;
-    let end = report_lines::put_table(out, table);
+    let end = report_lines::put_table(out, &s.table);
     Reported { stage, end }
 }
 
 // The end of a run. After a failure there is no report.
 fn finish<R>(
     rt: HostRuntime,
+    voice: &mut Speaker,
     reader: &Noting<R>,
     writer: &Noting<Stdout>,
     name: &[u8],
-    out: &mut [u8],
+    out: &[u8],
     reported: Reported,
-)
-    requires { reported.end ≤ length out.old }
+) -> io::Result<()>
+    requires { reported.end ≤ length out.now }
+    ensures { voice.new.program ≡ voice.old.program }
 {
-    let stage = reported.stage;
-    let end = reported.end;
-    match stage {
-        Stage::Going => {
-            messages::say(
-                &mut rt.stderr(),
-                out,
-                b"avtp_report",
-                name,
-                b"not read to its end",
-            );
+    if reported.stage == Stage::AllRead {
+        return voice.write(&mut rt.stdout(), &out[..reported.end]);
+    }
+    program::tell_end(
+        voice,
+        reader,
+        writer,
+        name,
+        reported.stage,
+        b"not read to its end",
+    )
+}
+
+#[derive(Clone, Copy)]
+struct Report;
+
+impl Visit for Report {
+    // A whole capture.
+    fn visit<R: Read + Drop>(
+        &self,
+        rt: HostRuntime,
+        voice: &mut Speaker,
+        reader: R,
+        name: &[u8],
+    ) -> io::Result<()> {
+        let mut reader = Noting::new(reader);
+        let mut input = input::buffer();
+        let Some(have) = program::first(voice, &mut reader, &mut input, name) else {
+            return Ok(());
+        };
+        if let Some(format) = formats::recognise(&input[..have]) {
+            voice.say(name, formats::said(format));
         }
-        Stage::AllRead => {
-            messages::write(
-                &mut rt.stdout(),
-                &mut rt.stderr(),
-                b"avtp_report",
-                &out[0..end],
-            );
+        let mut writer = Noting::new(rt.stdout());
+        let mut out = [0u8; 65536];
+        let reported = report_records(rt, &mut reader, &mut writer, &mut input, have, &mut out);
+        finish(rt, voice, &reader, &writer, name, &out, reported)
+    }
+}
+
+impl Program for Report {
+    // More than one name is an error, since no line could part two reports. The one is the first word or, where that is `--`, the second.
+    fn visit_named(&self, rt: HostRuntime, voice: &mut Speaker, request: Request, names: usize) {
+        if names > 1 {
+            voice.say(b"too many names", b"a report is of one capture");
+            return;
         }
-        Stage::CannotRead => {
-            messages::fail(&mut rt.stderr(), out, b"avtp_report", name, reader.why());
-        }
-        Stage::CannotWrite => {
-            messages::fail_output(&mut rt.stderr(), out, b"avtp_report", writer.why());
-        }
+        let place = if request.first.is_some_and(|(at, _)| at == 1) {
+            2
+        } else {
+            1
+        };
+        let _ = program::argument(self, rt, voice, place);
     }
-}
-
-// A whole capture.
-fn report<R: Read + Drop>(rt: HostRuntime, reader: R, name: &[u8]) {
-    let mut reader = Noting::new(reader);
-    let mut input = input::buffer();
-    let mut out = [0u8; 65536];
-    let first = input::first(&mut reader, &mut input, 4);
-    let source = first.source;
-    let have = first.end;
-    if input::has_failed(source) && have == 0 {
-        messages::fail(
-            &mut rt.stderr(),
-            &mut out,
-            b"avtp_report",
-            name,
-            reader.why(),
-        );
-        return;
-    }
-    let format = formats::recognise(&input[0..have]);
-    formats::hint(&mut rt.stderr(), &mut out, b"avtp_report", name, format);
-    let mut writer = Noting::new(rt.stdout());
-    let reported = report_records(rt, &mut reader, &mut writer, &mut input, have, &mut out);
-    finish(rt, &reader, &writer, name, &mut out, reported);
-}
-
-fn report_named(rt: HostRuntime, name: &[u8]) {
-    if options::is_dash(name) {
-        report(rt, rt.stdin(), b"standard input");
-        return;
-    }
-    match opening::open(&rt, name) {
-        Ok(file) => report(rt, file, name),
-        Err(why) => {
-            let mut room = [0u8; 65536];
-            messages::fail(&mut rt.stderr(), &mut room, b"avtp_report", name, why);
-        }
-    }
-}
-
-// The one name: the first word or, where that is `--`, the second.
-fn report_argument(rt: HostRuntime, request: Request) {
-    let mut room = [0u8; 4096];
-    let mut place = 1;
-    if request.at == 1 {
-        place = 2;
-    }
-    let n = options::argument(&rt, place, &mut room);
-    report_named(rt, &room[..n]);
-}
-
-// No capture is named: standard input, unless that waits for keys.
-fn report_input(rt: HostRuntime) {
-    if rt.stdin().is_terminal() {
-        help::show_usage(rt);
-        return;
-    }
-    report(rt, rt.stdin(), b"standard input");
-}
-
-// More than one name is an error, since no line could part two reports.
-fn run(rt: HostRuntime, request: Request) {
-    let names = options::name_count(request);
-    if names == 0 {
-        report_input(rt);
-        return;
-    }
-    if names > 1 {
-        let mut room = [0u8; 65536];
-        messages::say(
-            &mut rt.stderr(),
-            &mut room,
-            b"avtp_report",
-            b"too many names",
-            b"a report is of one capture",
-        );
-        return;
-    }
-    report_argument(rt, request);
-}
-
-fn refuse(rt: HostRuntime, at: usize) {
-    let mut room = [0u8; 65536];
-    options::refuse(&rt, &mut rt.stderr(), &mut room, b"avtp_report", at);
 }
 
 fn main(rt: HostRuntime) {
-    let request = options::read_request(&rt);
-    let word = request.word;
-    match word {
-        Word::Help => help::show_help(rt),
-        Word::Version => help::show_version(rt),
-        Word::Unknown => refuse(rt, request.at),
-        Word::Name => run(rt, request),
-        Word::Rest => run(rt, request),
-    }
+    program::start(&Report, rt, help::texts());
 }

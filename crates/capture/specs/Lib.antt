@@ -5,3 +5,4 @@ pub mod Parts
 pub mod Edges
 pub mod Walk
 pub mod InChunks
+pub mod Private

@@ -1,11 +1,12 @@
 -- A capture's records (document 01, Capture and listing; requests #107 and #109), over the bytes that remain of it.
-use Rattle.std.specs.Prelude.{ℕ, ◌+◌, Bool, false, cond, not, ◌||◌, List, [], ◌∷◌, eqb, ltb, length, drop}
+use Rattle.std.specs.Prelude.{ℕ, ◌+◌, Bool, false, cond, not, ◌||◌, List, [], ◌∷◌, eqb, ltb, length, drop, Result, Ok, Err}
 use Rattle.wire.specs.Numbers.{number_or_0, little_endian_or_0}
+use Rattle.refusal.specs.declared.Refusal.{Refusal}
 use Rattle.refusal.specs.Refusals.{number_of, if_accepted, Check, ◌answers◌, first_of, differs}
 use Rattle.capture.specs.declared.Entry.{Entry}
 use Rattle.capture.specs.declared.Entry.TheVariants.{End, Cut, Whole}
 use Rattle.capture.specs.declared.Content.{Content}
-use Rattle.capture.specs.declared.Content.TheVariants.{Refused, Frame, Admit}
+use Rattle.capture.specs.declared.Content.TheVariants.{Frame, Admit}
 
 -- ---- What stands at the front
 
@@ -28,10 +29,10 @@ pub data Front : Type 0 where
   whole : ℕ → Held → Front
 
 -- what each case of the answer says
-abbrev pub held_of : Content → Held
-held_of (Refused r) = damaged (number_of r)
-held_of (Frame L) = arrival L
-held_of (Admit id limit) = admission id limit
+abbrev pub held_of : Result Content Refusal → Held
+held_of (Ok (Frame L)) = arrival L
+held_of (Ok (Admit id limit)) = admission id limit
+held_of (Err r) = damaged (number_of r)
 
 abbrev pub front_of : Entry → Front
 front_of End = end

@@ -7,11 +7,13 @@ ghost use Rattle.capture_arrivals.specs.Staying.{StaysAdmitted};
 ghost use Rattle.capture_arrivals.specs.Example.{WorkedCaptures};
 
 // After a capture's last obeyed admission the answers to its frames, and the table at the end, are those of their list of arrivals.
+#[tactic(auto, using(crate::proofs::Following::after_last_admission))]
 fn after_last_admission()
     ensures { AfterLastAdmission }
 {}
 
 // A stream that is admitted stays so to the end of the capture.
+#[tactic(auto, using(crate::proofs::Staying::stays_admitted))]
 fn stays_admitted()
     ensures { StaysAdmitted }
 {}

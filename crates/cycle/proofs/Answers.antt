@@ -7,40 +7,36 @@ use native.Mathlib.Nat.{div-one}
 use native.Mathlib.Omega.{arith}
 use borrow.Author.Tests.{lt-ltb, le-ltb}
 use lib.Bits.{bit_and, bit_or}
+use Rattle.std.specs.Prelude.{Result, Ok, Err}
 use Rattle.wire.specs.Bits.{field}
 use Rattle.wire.proofs.Bits.{joined, mask12}
 use Rattle.refusal.specs.declared.Refusal.{Refusal}
 use Rattle.refusal.specs.Refusals.{number_of}
 use Rattle.refusal.proofs.First.{positive}
 use Rattle.frame.specs.declared.layout.Fields.{Fields}
-use Rattle.frame.specs.declared.Reading.{Reading}
-use Rattle.frame.specs.declared.Reading.TheVariants as answer
 use Rattle.frame.specs.Reading.{reading, read_answer}
 use Rattle.frame.proofs.Answers.{refused_number, accepted_number, accepted_fields}
 use Rattle.cycle.specs.declared.Nanoseconds.{Nanoseconds}
 use Rattle.cycle.specs.declared.CycleTime.{CycleTime}
-use Rattle.cycle.specs.declared.Instant.TheVariants as instant
-use Rattle.cycle.specs.declared.Syt.TheVariants as syt
 use Rattle.cycle.specs.declared.judgement.CycleTiming.{CycleTiming}
-use Rattle.cycle.specs.declared.judgement.Judgement.TheVariants.{Judged}
 use Rattle.cycle.specs.CycleTime.{tick_in_second, ticks_of, cycle_refusal, syt_row, syt_of, syt_answered, syt_answer, first_nanosecond, time_answered, time_answer}
 use Rattle.cycle.specs.Judgement.{cycle_offset, due_tick, timed_by, untimed, gives_none, JudgementAnswer, refused_with, judged, judgement, judgement_answer}
 use Rattle.cycle.proofs.Range.{parts}
 
 module _ (c : CycleTime) where
-  pub no_time_lem : (r : Refusal) → number_of r ≡ cycle_refusal c → time_answer (instant.Refused r) ≡ time_answered c
+  pub no_time_lem : (r : Refusal) → number_of r ≡ cycle_refusal c → time_answer (Err r) ≡ time_answered c
   unfolding time_answered
   no_time_lem r e = let p = positive r in rw (← e, p.1)
 
-  pub the_time : {n : Nanoseconds} → 0 ≡ cycle_refusal c → n ≡ first_nanosecond (ticks_of c) → time_answer (instant.At n) ≡ time_answered c
+  pub the_time : {n : Nanoseconds} → 0 ≡ cycle_refusal c → n ≡ first_nanosecond (ticks_of c) → time_answer (Ok n) ≡ time_answered c
   unfolding time_answered
   the_time z e = rw (← z, e)
 
-  pub no_syt : (r : Refusal) → number_of r ≡ cycle_refusal c → syt_answer (syt.Refused r) ≡ syt_answered c
+  pub no_syt : (r : Refusal) → number_of r ≡ cycle_refusal c → syt_answer (Err r) ≡ syt_answered c
   unfolding syt_answered
   no_syt r e = let p = positive r in rw (← e, p.1)
 
-  pub the_syt : {n : ℕ} → 0 ≡ cycle_refusal c → n ≡ syt_of c → syt_answer (syt.Value n) ≡ syt_answered c
+  pub the_syt : {n : ℕ} → 0 ≡ cycle_refusal c → n ≡ syt_of c → syt_answer (Ok n) ≡ syt_answered c
   unfolding syt_answered
   the_syt z e = rw (← z, e)
 
@@ -68,7 +64,7 @@ due_tick_lem n h =
     λ i. record { 0 = cycle i * 3_072 + offset_field n i }
 
 module _ (f : Fields) (L : Nanoseconds) where
-  pub answers_none : true ≡ gives_none f → judgement_answer (Judged untimed) ≡ judged f L
+  pub answers_none : true ≡ gives_none f → judgement_answer (Ok untimed) ≡ judged f L
   unfolding judged
   answers_none e = rw (← e)
 
@@ -78,15 +74,15 @@ module _ (f : Fields) (L : Nanoseconds) where
     offset_too_large_lem h = rw (← e, ← offset_field f.cip.low_half, lt-ltb 3_071 (bit_and f.cip.low_half 0xfff) h)
 
     pub by_offset : bit_and f.cip.low_half 0xfff ≤ 3_071 → {t : CycleTiming}
-        → t ≡ timed_by (cycle_offset (tick_in_second L) (due_tick f.cip.low_half)) → judgement_answer (Judged t) ≡ judged f L
+        → t ≡ timed_by (cycle_offset (tick_in_second L) (due_tick f.cip.low_half)) → judgement_answer (Ok t) ≡ judged f L
     unfolding judged
     by_offset h q = rw (← e, ← offset_field f.cip.low_half, le-ltb 3_071 (bit_and f.cip.low_half 0xfff) h, q)
 
-module _ (frame : List ℕ) (L : Nanoseconds) {x : Reading} (read : read_answer x ≡ reading frame) where
-  pub reader_refuses : {r : Refusal} → x ≡ answer.Refused r → refused_with (number_of r) ≡ judgement frame L
+module _ (frame : List ℕ) (L : Nanoseconds) {x : Result Fields Refusal} (read : read_answer x ≡ reading frame) where
+  pub reader_refuses : {r : Refusal} → x ≡ Err r → refused_with (number_of r) ≡ judgement frame L
   unfolding judgement
   reader_refuses {r} z = let p = positive r in rw (refused_number frame read z, p.1)
 
-  pub reader_accepts : {f : Fields} {a : JudgementAnswer} → x ≡ answer.Accepted f → a ≡ judged f L → a ≡ judgement frame L
+  pub reader_accepts : {f : Fields} {a : JudgementAnswer} → x ≡ Ok f → a ≡ judged f L → a ≡ judgement frame L
   unfolding judgement
   reader_accepts z q = rw (accepted_number frame read z, ← accepted_fields frame read z) q

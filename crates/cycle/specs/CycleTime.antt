@@ -1,15 +1,12 @@
 -- Cycle time (request #101). `Nanoseconds` and `Ticks` are two types here as in the code: a reading of one clock cannot stand where one
 -- of the other is meant.
-use Rattle.std.specs.Prelude.{ℕ, ◌+◌, ◌*◌, ◌/◌, ◌%◌, ◌≤◌, ◌<◌, ◌≡◌, Bool, List, [], ◌∷◌, ltb}
+use Rattle.std.specs.Prelude.{ℕ, ◌+◌, ◌*◌, ◌/◌, ◌%◌, ◌≤◌, ◌<◌, ◌≡◌, Bool, List, [], ◌∷◌, ltb, Result, Ok, Err}
 use Rattle.wire.specs.Bits.{pack}
+use Rattle.refusal.specs.declared.Refusal.{Refusal}
 use Rattle.refusal.specs.Refusals.{Check, ◌answers◌, first_of, number_of, if_accepted}
 use Rattle.cycle.specs.declared.Nanoseconds.{Nanoseconds}
 use Rattle.cycle.specs.declared.Ticks.{Ticks}
 use Rattle.cycle.specs.declared.CycleTime.{CycleTime}
-use Rattle.cycle.specs.declared.Instant.{Instant}
-use Rattle.cycle.specs.declared.Instant.TheVariants as instant
-use Rattle.cycle.specs.declared.Syt.{Syt}
-use Rattle.cycle.specs.declared.Syt.TheVariants as syt
 
 -- "the tick number within its second is (n mod 1,000,000,000) × 384 / 15,625, rounded down"
 unfoldable pub tick_in_second : Nanoseconds → Ticks
@@ -83,9 +80,9 @@ pub record SytAnswer : Type 0 where
 unfoldable pub syt_answered : CycleTime → SytAnswer
 syt_answered c = record { number = cycle_refusal c; syt = if_accepted (cycle_refusal c) (syt_of c) 0 }
 
-abbrev pub syt_answer : Syt → SytAnswer
-syt_answer (syt.Value v) = record { number = 0; syt = v }
-syt_answer (syt.Refused r) = record { number = number_of r; syt = 0 }
+abbrev pub syt_answer : Result ℕ Refusal → SytAnswer
+syt_answer (Ok v) = record { number = 0; syt = v }
+syt_answer (Err r) = record { number = number_of r; syt = 0 }
 
 pub record TimeAnswer : Type 0 where
   pub number : ℕ
@@ -97,9 +94,9 @@ no_time = record { 0 = 0 }
 unfoldable pub time_answered : CycleTime → TimeAnswer
 time_answered c = record { number = cycle_refusal c; time = if_accepted (cycle_refusal c) (first_nanosecond (ticks_of c)) no_time }
 
-abbrev pub time_answer : Instant → TimeAnswer
-time_answer (instant.At n) = record { number = 0; time = n }
-time_answer (instant.Refused r) = record { number = number_of r; time = no_time }
+abbrev pub time_answer : Result Nanoseconds Refusal → TimeAnswer
+time_answer (Ok n) = record { number = 0; time = n }
+time_answer (Err r) = record { number = number_of r; time = no_time }
 
 -- ---- What is wanted of both ways
 

@@ -1,6 +1,7 @@
 -- A frame judged by its SYT (requests #101 and #108). L is the arrival time, in nanoseconds.
-use Rattle.std.specs.Prelude.{ℕ, ◌+◌, ◌*◌, ◌%◌, ◌≡◌, Bool, not, ◌||◌, cond, List, eqb, ℤ, pos, negsuc, neg_ℤ}
+use Rattle.std.specs.Prelude.{ℕ, ◌+◌, ◌*◌, ◌%◌, ◌≡◌, Bool, not, ◌||◌, cond, List, eqb, ℤ, pos, negsuc, neg_ℤ, Result, Ok, Err}
 use Rattle.wire.specs.Bits.{field}
+use Rattle.refusal.specs.declared.Refusal.{Refusal}
 use Rattle.refusal.specs.Refusals.{number_of, if_accepted}
 use Rattle.frame.specs.declared.layout.Fields.{Fields}
 use Rattle.frame.specs.Layout.{fields_of, cip_in}
@@ -12,8 +13,6 @@ use Rattle.cycle.specs.declared.CycleTime.{CycleTime}
 use Rattle.cycle.specs.declared.judgement.CycleKind.{CycleKind}
 use Rattle.cycle.specs.declared.judgement.CycleKind.TheVariants.{None, Late, Ahead}
 use Rattle.cycle.specs.declared.judgement.CycleTiming.{CycleTiming}
-use Rattle.cycle.specs.declared.judgement.Judgement.{Judgement}
-use Rattle.cycle.specs.declared.judgement.Judgement.TheVariants.{Judged, Refused}
 use Rattle.cycle.specs.CycleTime.{tick_in_second, cycle_time_of, ticks_of, syt_row, syt_of, offset_too_large, cycle_refusal}
 
 -- how far the tick of a SYT lies from L's
@@ -67,9 +66,9 @@ unfoldable pub judgement : List ℕ → Nanoseconds → JudgementAnswer
 judgement frame L = if_accepted (refusal frame) (judged (fields_of frame) L) (refused_with (refusal frame))
 
 -- what each case of the answer says
-abbrev pub judgement_answer : Judgement → JudgementAnswer
-judgement_answer (Judged timing) = judged_as timing
-judgement_answer (Refused r) = refused_with (number_of r)
+abbrev pub judgement_answer : Result CycleTiming Refusal → JudgementAnswer
+judgement_answer (Ok timing) = judged_as timing
+judgement_answer (Err r) = refused_with (number_of r)
 
 -- ---- L's second plays no part
 

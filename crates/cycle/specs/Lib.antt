@@ -1,2 +1,3 @@
 pub mod CycleTime
 pub mod Judgement
+pub mod Kinds

@@ -9,35 +9,23 @@ ghost use Rattle.std.specs.Prelude.{◌≡◌, ◌<◌};
 ghost use Rattle.refusal.specs.Refusals.{verdict_number};
 ghost use Rattle.cycle.specs.CycleTime.{tick_in_second, cycle_time_of, ticks_of, first_nanosecond, OneNanosecond, cycle_refusal, syt_answered, syt_answer, time_answered, time_answer, TickAndBack, NanosecondAndBack};
 
-use refusal::{Refusal, Verdict};
+use refusal::Refusal;
 
 // A time of the network's clock.
-#[derive(Clone, Copy)]
+#[derive(Clone, Copy, PartialEq, Eq, PartialOrd, Ord, Debug)]
 pub struct Nanoseconds(pub u64);
 
 // Ticks of the cycle clock. `to_ticks` counts them from cycle second 0; private calls also from the start of a second, or modulo 16
 // cycles.
-#[derive(Clone, Copy)]
+#[derive(Clone, Copy, PartialEq, Eq, PartialOrd, Ord, Debug)]
 pub struct Ticks(pub u64);
 
 // A time of the cycle clock by its parts. They may be out of range; the calls that take a cycle time refuse it then.
-#[derive(Clone, Copy)]
+#[derive(Clone, Copy, PartialEq, Eq, Debug)]
 pub struct CycleTime {
     pub seconds: u64,
     pub cycle: u64,
     pub offset: u64,
-}
-
-#[derive(Clone, Copy)]
-pub enum Instant {
-    At(Nanoseconds),
-    Refused(Refusal),
-}
-
-#[derive(Clone, Copy)]
-pub enum Syt {
-    Value(u16),
-    Refused(Refusal),
 }
 
 // The tick within its second.
@@ -73,6 +61,7 @@ fn ticks_of(time: CycleTime) -> Ticks
 }
 
 // The ticks from cycle second 0 on, below 128 seconds of them, of any nanosecond.
+#[tactic(auto, using(crate::proofs::Range::always_in_range))]
 pub fn to_ticks(time: Nanoseconds) -> Ticks
     ensures { result ≡ ticks_of (cycle_time_of time) }
 {
@@ -80,31 +69,28 @@ pub fn to_ticks(time: Nanoseconds) -> Ticks
 }
 
 #[tactic(auto, unfolding(refusal::specs::Refusals::first_of, crate::specs::CycleTime::cycle_checks, crate::specs::CycleTime::cycle_refusal))]
-fn check_cycle_time(time: CycleTime) -> Verdict
+fn check_cycle_time(time: CycleTime) -> Result<(), Refusal>
     ensures { verdict_number result ≡ cycle_refusal time }
 {
     if 7_999 < time.cycle {
-        return Verdict::Refused(Refusal::CycleTooLarge);
+        return Err(Refusal::CycleTooLarge);
     }
     if 3_071 < time.offset {
-        return Verdict::Refused(Refusal::OffsetInCycleTooLarge);
+        return Err(Refusal::OffsetInCycleTooLarge);
     }
     if 127 < time.seconds {
-        return Verdict::Refused(Refusal::CycleSecondsTooLarge);
+        return Err(Refusal::CycleSecondsTooLarge);
     }
-    Verdict::Passed
+    Ok(())
 }
 
 // The SYT field that stands for a cycle time.
-pub fn to_syt(time: CycleTime) -> Syt
+pub fn to_syt(time: CycleTime) -> Result<u16, Refusal>
     ensures { syt_answer result ≡ syt_answered time }
 {
-    let verdict = check_cycle_time(time);
-    if let Verdict::Refused(refusal) = verdict {
-        return Syt::Refused(refusal);
-    }
+    check_cycle_time(time)?;
     let field = (((time.cycle % 16) << 12) | time.offset) as u16;
-    Syt::Value(field)
+    Ok(field)
 }
 
 // 384 ticks take 15,625 nanoseconds; what is left of a nanosecond counts as a whole one.
@@ -119,27 +105,27 @@ fn first_nanosecond(ticks: Ticks) -> Nanoseconds
 }
 
 // The smallest nanosecond that is not before a cycle time, from the start of cycle second 0 on and so below 128 seconds.
-pub fn to_nanoseconds(time: CycleTime) -> Instant
+pub fn to_nanoseconds(time: CycleTime) -> Result<Nanoseconds, Refusal>
     ensures { time_answer result ≡ time_answered time }
 {
-    let verdict = check_cycle_time(time);
-    if let Verdict::Refused(refusal) = verdict {
-        return Instant::Refused(refusal);
-    }
-    Instant::At(first_nanosecond(ticks_of(time)))
+    check_cycle_time(time)?;
+    Ok(first_nanosecond(ticks_of(time)))
 }
 
 // That nanosecond is the smallest not before the cycle time, and no other is.
+#[tactic(auto, using(crate::proofs::BothWays::one_nanosecond))]
 fn one_nanosecond()
     ensures { OneNanosecond }
 {}
 
 // A cycle time in range, to nanoseconds and back, is the same cycle time.
+#[tactic(auto, using(crate::proofs::BothWays::tick_and_back))]
 fn tick_and_back()
     ensures { TickAndBack }
 {}
 
 // Nanoseconds below 128 seconds, to a cycle time and back, are never later and at most 40 earlier.
+#[tactic(auto, using(crate::proofs::BothWays::nanosecond_and_back))]
 fn nanosecond_and_back()
     ensures { NanosecondAndBack }
 {}

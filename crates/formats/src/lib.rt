@@ -3,45 +3,44 @@
 
 ghost use Rattle.std.specs.Prelude.{◌≡◌};
 ghost use Rattle.text.specs.InTurn.{PutInTurn};
-ghost use Rattle.formats.specs.Formats.{start_of, hint_of};
+ghost use Rattle.formats.specs.Formats.{start_of, said_of, hint_of};
 
 use std::io::Write;
-use words::starts_with;
 
-#[derive(Clone, Copy)]
+#[derive(Clone, Copy, PartialEq, Eq)]
 pub enum Format {
-    // none of those below
-    Other,
     Pcap,
     Pcapng,
     Gzip,
 }
 
-// What a file with these first bytes looks like.
-#[tactic(auto, unfolding(crate::specs::Formats::start_of))]
-pub fn recognise(bytes: &[u8]) -> Format
+// What a file with these first bytes looks like, if it looks like anything.
+#[tactic(auto, unfolding(crate::specs::Formats::start_of, words::specs::Words::starts_with))]
+pub fn recognise(bytes: &[u8]) -> Option<Format>
     ensures { result ≡ start_of bytes.now }
 {
-    if starts_with(bytes, &[0x0A, 0x0D, 0x0D, 0x0A]) {
-        return Format::Pcapng;
+    match bytes {
+        [0x0A, 0x0D, 0x0D, 0x0A, ..] => Some(Format::Pcapng),
+        [0x1F, 0x8B, 0x08, ..] => Some(Format::Gzip),
+        // times in microseconds or in nanoseconds, of either byte order
+        [0xA1, 0xB2, 0xC3, 0xD4, ..]
+        | [0xD4, 0xC3, 0xB2, 0xA1, ..]
+        | [0xA1, 0xB2, 0x3C, 0x4D, ..]
+        | [0x4D, 0x3C, 0xB2, 0xA1, ..] => Some(Format::Pcap),
+        _ => None,
     }
-    if starts_with(bytes, &[0x1F, 0x8B, 0x08]) {
-        return Format::Gzip;
+}
+
+// What is said of a file of a format.
+pub fn said(format: Format) -> &'static [u8]
+    ensures { result.now ≡ said_of format }
+{
+    match format {
+        Format::Pcap => b"starts like a pcap file; a capture has a format of its own (see --help)",
+        Format::Pcapng =>
+            b"starts like a pcapng file; a capture has a format of its own (see --help)",
+        Format::Gzip => b"starts like a gzip file; unpack it first",
     }
-    // times in microseconds or in nanoseconds, of either byte order
-    if starts_with(bytes, &[0xA1, 0xB2, 0xC3, 0xD4]) {
-        return Format::Pcap;
-    }
-    if starts_with(bytes, &[0xD4, 0xC3, 0xB2, 0xA1]) {
-        return Format::Pcap;
-    }
-    if starts_with(bytes, &[0xA1, 0xB2, 0x3C, 0x4D]) {
-        return Format::Pcap;
-    }
-    if starts_with(bytes, &[0x4D, 0x3C, 0xB2, 0xA1]) {
-        return Format::Pcap;
-    }
-    Format::Other
 }
 
 // Says so where a file that is read as a capture looks like something else, as `messages::say` does.
@@ -50,32 +49,12 @@ pub fn hint<E: Write>(
     room: &mut [u8],
     program: &[u8],
     name: &[u8],
-    format: Format,
+    format: Option<Format>,
 ) -> usize
     ensures { PutInTurn room.old 0 (hint_of program.now name.now format) room.new result }
 {
     match format {
-        Format::Other => 0,
-        Format::Pcap => messages::say(
-            errors,
-            room,
-            program,
-            name,
-            b"starts like a pcap file; a capture has a format of its own (see --help)",
-        ),
-        Format::Pcapng => messages::say(
-            errors,
-            room,
-            program,
-            name,
-            b"starts like a pcapng file; a capture has a format of its own (see --help)",
-        ),
-        Format::Gzip => messages::say(
-            errors,
-            room,
-            program,
-            name,
-            b"starts like a gzip file; unpack it first",
-        ),
+        Some(format) => messages::say(errors, room, program, name, said(format)),
+        None => 0,
     }
 }

@@ -1,9 +1,8 @@
 -- What is answered to a frame: its fields and its payload, or a number (document 01, Frame layout and Numbers answered; request #108).
-use Rattle.std.specs.Prelude.{ℕ, ◌+◌, ◌-◌, ◌/◌, ◌≤◌, ◌≡◌, Bool, false, ◌||◌, cond, List, [], ltb, length}
+use Rattle.std.specs.Prelude.{ℕ, ◌+◌, ◌-◌, ◌/◌, ◌≤◌, ◌≡◌, Bool, false, ◌||◌, cond, List, [], ltb, length, Result, Ok, Err}
 use Rattle.wire.specs.Numbers.{part}
 use Rattle.frame.specs.declared.layout.Fields.{Fields}
-use Rattle.frame.specs.declared.Reading.{Reading}
-use Rattle.frame.specs.declared.Reading.TheVariants.{Accepted, Refused}
+use Rattle.refusal.specs.declared.Refusal.{Refusal}
 use Rattle.frame.specs.Layout.{has_cip, cip_length, payload_start, no_cip, fields_of, cip_in}
 use Rattle.refusal.specs.Refusals.{number_of, if_accepted}
 use Rattle.frame.specs.Checks.{block_bytes, refusal}
@@ -34,9 +33,9 @@ unfoldable pub reading : List ℕ → ReadAnswer
 reading frame = reading_by (refusal frame) frame
 
 -- what each case of the answer says
-abbrev pub read_answer : Reading → ReadAnswer
-read_answer (Accepted f) = record { number = 0; fields = f }
-read_answer (Refused r) = record { number = number_of r; fields = no_fields }
+abbrev pub read_answer : Result Fields Refusal → ReadAnswer
+read_answer (Ok f) = record { number = 0; fields = f }
+read_answer (Err r) = record { number = number_of r; fields = no_fields }
 
 -- what a stream_data_length of n leaves to the payload: the part of the frame that starts at byte 50 and is n − 8 bytes long, behind a CIP
 -- header, and all n bytes from byte 42 where there is none

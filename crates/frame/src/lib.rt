@@ -2,6 +2,7 @@
 // payload or its first fitting number out.
 #![tactic(auto)]
 
+mod bytes;
 pub mod checks;
 pub mod layout;
 
@@ -12,42 +13,29 @@ ghost use Rattle.frame.specs.Layout.{has_cip, payload_start, cip_of, no_cip, fie
 ghost use Rattle.frame.specs.Checks.{refusal};
 ghost use Rattle.frame.specs.Ignored.{IgnoredBits};
 
-use layout::Fields;
-use refusal::{Refusal, Verdict};
+use bytes::Bytes;
+use layout::{Cip, Fields};
+use refusal::Refusal;
 
-#[derive(Clone, Copy)]
-pub enum Reading {
-    Accepted(Fields),
-    Refused(Refusal),
-}
-
-pub fn read(frame: &[u8]) -> Reading
+pub fn read(frame: &[u8]) -> Result<Fields, Refusal>
     ensures { read_answer result ≡ reading frame.now }
 {
-    let n = frame.len();
-    let by_length = checks::check_length(n);
-    if let Verdict::Refused(refusal) = by_length {
-        return Reading::Refused(refusal);
-    }
-    let header = layout::read_header(frame);
-    let by_header = checks::check_header(n, header);
-    if let Verdict::Refused(refusal) = by_header {
-        return Reading::Refused(refusal);
-    }
+    let bytes = Bytes::of(frame)?;
+    let header = bytes.header();
+    checks::check_header(frame.len(), header)?;
     // Of a frame without a CIP header no more is asked.
     if header.stream.tag != 1 {
-        let cip = layout::no_cip();
-        return Reading::Accepted(Fields { header, cip });
+        return Ok(Fields {
+            header,
+            cip: Cip::default(),
+        });
     }
     if header.stream.data_length < 8 {
-        return Reading::Refused(Refusal::NoCipHeader);
+        return Err(Refusal::NoCipHeader);
     }
-    let cip = layout::read_cip(frame);
-    let by_blocks = checks::check_blocks(header.stream, cip);
-    if let Verdict::Refused(refusal) = by_blocks {
-        return Reading::Refused(refusal);
-    }
-    Reading::Accepted(Fields { header, cip })
+    let cip = bytes.cip();
+    checks::check_blocks(header.stream, cip)?;
+    Ok(Fields { header, cip })
 }
 
 // The part of a frame that a tag and a stream_data_length leave to the payload; empty where the frame has no such part. For a caller that
@@ -74,7 +62,7 @@ pub fn payload(frame: &[u8]) -> &[u8]
     ensures result_value { result.now ≡ payload_of frame.now }
     ensures stands_in { StandsIn frame.entry.ref_ptr (payload_start (cip_in (fields_of frame.now))) result.ref_ptr (refusal frame.now ≡ 0) }
 {
-    let Reading::Accepted(fields) = read(frame) else {
+    let Ok(fields) = read(frame) else {
         return &frame[..0];
     };
     let stream = fields.header.stream;

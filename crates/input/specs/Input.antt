@@ -18,11 +18,6 @@ is_open Open = true
 is_open Ended = false
 is_open Failed = false
 
-abbrev pub has_failed : Source → Bool
-has_failed Open = false
-has_failed Ended = false
-has_failed Failed = true
-
 abbrev pub has_ended : Source → Bool
 has_ended Open = false
 has_ended Ended = true

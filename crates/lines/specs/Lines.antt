@@ -1,14 +1,15 @@
 -- The lines of a listing (document 01, Capture and listing; request #106 for `unclear`, request #107 for `far`, request #108 for `dbc=none`;
 -- without `removed`, by request #109). Each ends in a line feed.
-use Rattle.std.specs.Prelude.{ℕ, ◌+◌, ◌%◌, ◌^◌, Bool, true, false, List, ◌++◌}
+use Rattle.std.specs.Prelude.{ℕ, ◌+◌, ◌%◌, ◌^◌, Bool, true, false, List, ◌++◌, Result, Ok, Err}
+use Rattle.refusal.specs.declared.Refusal.{Refusal}
 use Rattle.refusal.specs.Refusals.{number_of}
 use Rattle.frame.specs.Layout.{has_cip}
 use Rattle.presentation.specs.declared.Kind.{Kind}
-use Rattle.presentation.specs.declared.Kind.TheVariants.{None, Cut, Outside, Late, Ahead, Unclear, Far}
+use Rattle.presentation.specs.Kinds.{kind_name}
 use Rattle.presentation.specs.declared.Timing.{Timing}
 use Rattle.stream.specs.declared.Flags.{Flags}
 use Rattle.lines.specs.declared.Outcome.{Outcome}
-use Rattle.lines.specs.declared.Outcome.TheVariants.{Admitted, Refused, Frame}
+use Rattle.lines.specs.declared.Outcome.TheVariants.{Admitted, Frame}
 use Rattle.text.specs.Text.{ascii, decimal, signed}
 
 -- ---- The first line and the last
@@ -28,10 +29,10 @@ pub data Line : Type 0 where
   -- an accepted frame: its tag, flags and time
   frame : ℕ → Flags → Timing → Line
 
-abbrev pub line_of : Outcome → Line
-line_of Admitted = admitted
-line_of (Refused r) = refused (number_of r)
-line_of (Frame tag flags timing) = frame tag flags timing
+abbrev pub line_of : Result Outcome Refusal → Line
+line_of (Ok Admitted) = admitted
+line_of (Ok (Frame tag flags timing)) = frame tag flags timing
+line_of (Err r) = refused (number_of r)
 
 -- a raised flag prints its word
 abbrev pub flag_word : Bool → List ℕ → List ℕ
@@ -52,13 +53,7 @@ flags_text tag f =
     ++ (ascii " mr=" ++ flag_word f.mr (ascii "change"))
 
 abbrev pub kind_word : Kind → List ℕ
-kind_word None = ascii "none"
-kind_word Cut = ascii "cut"
-kind_word Outside = ascii "outside"
-kind_word Late = ascii "late"
-kind_word Ahead = ascii "ahead"
-kind_word Unclear = ascii "unclear"
-kind_word Far = ascii "far"
+kind_word kind = kind_name kind
 
 unfoldable pub timing_text : Timing → List ℕ
 timing_text t = ascii " time=" ++ kind_word t.kind ++ ascii " offset=" ++ signed t.offset ++ ascii "\n"

@@ -1,8 +1,6 @@
 -- A line, or the lines at the end of a listing, in a buffer that a caller lends.
-use Rattle.std.specs.Prelude.{ℕ, ◌+◌, Bool, true, false, cond, List, length, nat_le}
+use Rattle.std.specs.Prelude.{ℕ, ◌+◌, Bool, true, false, cond, List, length, nat_le, Option, Some, None}
 use Rattle.std.proofs.lemmas.List.Edits.{sets}
-use Rattle.lines.specs.declared.Placed.{Placed}
-use Rattle.lines.specs.declared.Placed.TheVariants.{UpTo, NoRoom}
 
 -- the room that a line is given; no line has more bytes, nor have the two lines at the end of a cut capture
 abbrev pub line_room : ℕ
@@ -25,6 +23,6 @@ line_at d at line =
     (record { put = false; end = 0; buffer = d })
 
 -- what each case of the answer says, beside the buffer that is left
-abbrev pub placed_line : Placed → List ℕ → LineAt
-placed_line (UpTo end) d = record { put = true; end = end; buffer = d }
-placed_line NoRoom d = record { put = false; end = 0; buffer = d }
+abbrev pub placed_line : Option ℕ → List ℕ → LineAt
+placed_line (Some end) d = record { put = true; end = end; buffer = d }
+placed_line None d = record { put = false; end = 0; buffer = d }

@@ -25,6 +25,7 @@ fn put_flag(out: &mut [u8], at: usize, label: &[u8], raised: bool, word: &[u8]) 
 }
 
 // The word for the block count: without a CIP header none is judged.
+#[tactic(auto, using(text::proofs::Puts::alone))]
 fn put_block(out: &mut [u8], at: usize, tag: u8, raised: bool) -> usize
     ensures { PutInTurn out.old at (ascii " dbc=" ++ block_word (has_cip tag) raised) out.new result }
 {
@@ -54,6 +55,7 @@ fn put_flags(out: &mut [u8], at: usize, tag: u8, flags: Flags) -> usize
 }
 
 // The kind, with what stands before and after it.
+#[tactic(auto, using(text::proofs::Puts::alone))]
 fn put_kind(out: &mut [u8], at: usize, kind: Kind) -> usize
     ensures { PutInTurn out.old at (ascii " time=" ++ kind_word kind ++ ascii " offset=") out.new result }
 {
@@ -69,6 +71,7 @@ fn put_kind(out: &mut [u8], at: usize, kind: Kind) -> usize
 }
 
 // The end of a frame's line.
+#[tactic(auto, using(crate::proofs::Lengths::timing_length, text::proofs::Signs::signed_length))]
 fn put_timing(out: &mut [u8], at: usize, timing: Timing) -> usize
     ensures put_in_turn { PutInTurn out.old at (timing_text timing) out.new result }
     ensures timing_len_bound { length (timing_text timing) ≤ 43 }
@@ -79,6 +82,7 @@ fn put_timing(out: &mut [u8], at: usize, timing: Timing) -> usize
     text::put(out, b, b"\n")
 }
 
+#[tactic(auto, using(crate::proofs::Lengths::frame_length_lem))]
 fn put_frame(out: &mut [u8], at: usize, n: u64, tag: u8, flags: Flags, timing: Timing) -> usize
     ensures put_in_turn { PutInTurn out.old at (line_text n (frame tag flags timing)) out.new result }
     ensures timing_len_bound { length (line_text n (frame tag flags timing)) ≤ 110 }
@@ -88,16 +92,18 @@ fn put_frame(out: &mut [u8], at: usize, n: u64, tag: u8, flags: Flags, timing: T
     put_timing(out, b, timing)
 }
 
+#[tactic(auto, using(crate::proofs::Lengths::refused_length))]
 fn put_refused(out: &mut [u8], at: usize, n: u64, refusal: Refusal) -> usize
     ensures put_in_turn { PutInTurn out.old at (line_text n (refused (number_of refusal))) out.new result }
     ensures refusal_len_bound { length (line_text n (refused (number_of refusal))) ≤ 50 }
 {
     let a = text::put_decimal(out, at, n);
     let b = text::put(out, a, b" refused ");
-    let c = text::put_decimal(out, b, refusal::number(refusal) as u64);
+    let c = text::put_decimal(out, b, u64::from(u8::from(refusal)));
     text::put(out, c, b"\n")
 }
 
+#[tactic(auto, using(crate::proofs::Lengths::admitted_length))]
 fn put_admitted(out: &mut [u8], at: usize, n: u64) -> usize
     ensures put_in_turn { PutInTurn out.old at (line_text n admitted) out.new result }
     ensures admitted_len_bound { length (line_text n admitted) ≤ 30 }
@@ -106,14 +112,19 @@ fn put_admitted(out: &mut [u8], at: usize, n: u64) -> usize
     text::put(out, a, b" admitted\n")
 }
 
-pub(crate) fn put_line(out: &mut [u8], at: usize, n: u64, outcome: Outcome) -> usize
+pub(crate) fn put_line(
+    out: &mut [u8],
+    at: usize,
+    n: u64,
+    outcome: Result<Outcome, Refusal>,
+) -> usize
     ensures put_in_turn { PutInTurn out.old at (line_text n (line_of outcome)) out.new result }
     ensures outcome_len_bound { length (line_text n (line_of outcome)) ≤ line_room }
 {
     match outcome {
-        Outcome::Admitted => put_admitted(out, at, n),
-        Outcome::Refused(refusal) => put_refused(out, at, n, refusal),
-        Outcome::Frame { tag, flags, timing } => put_frame(out, at, n, tag, flags, timing),
+        Ok(Outcome::Admitted) => put_admitted(out, at, n),
+        Ok(Outcome::Frame { tag, flags, timing }) => put_frame(out, at, n, tag, flags, timing),
+        Err(refusal) => put_refused(out, at, n, refusal),
     }
 }
 
@@ -129,7 +140,7 @@ pub(crate) fn put_last(out: &mut [u8], at: usize, records: u64) -> usize
 pub(crate) fn put_cut(out: &mut [u8], at: usize, records: u64) -> usize
     ensures { PutInTurn out.old at (ending true records) out.new result }
 {
-    let n = std::num::wrapping_add_u64(records, 1);
+    let n = records.wrapping_add(1);
     let a = put_refused(out, at, n, Refusal::RecordCut);
     put_last(out, a, n)
 }

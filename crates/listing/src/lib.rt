@@ -14,21 +14,25 @@ fn worked_example()
 {}
 
 // Records are numbered from 1, and the last line has how many there are.
+#[tactic(auto, using(crate::proofs::Lines::numbered))]
 fn numbered()
     ensures { Numbered }
 {}
 
 // Where no line is shown there is no text.
+#[tactic(auto, using(crate::proofs::Lines::nothing_shown))]
 fn nothing_shown()
     ensures { NothingShown }
 {}
 
 // A capture without a record of kind 5 lists as it would without limits.
+#[tactic(auto, using(crate::proofs::Unlimited::unlimited_without_5))]
 fn unlimited_without_5()
     ensures { UnlimitedWithout5 }
 {}
 
 // Listing a capture in any chunks is listing it whole.
+#[tactic(auto, using(crate::proofs::InChunks::in_chunks))]
 fn in_chunks()
     ensures { ListedInChunks }
 {}

@@ -4,24 +4,20 @@
 pub mod noting;
 mod reason;
 
-ghost use Rattle.std.specs.Prelude.{◌≡◌, true, []};
+ghost use Rattle.std.specs.Prelude.{◌≡◌, [], IsOk, OnOk, replicate};
+ghost use Rattle.std.specs.Io.KnownBytes.{Appends};
 ghost use Rattle.text.specs.Text.{ascii};
 ghost use Rattle.text.specs.InTurn.{PutInTurn};
 ghost use Rattle.messages.specs.Messages.{plain, shown_byte, shown, NamesArePrintable, about, message};
 
+use std::io;
 use std::io::{Error, ErrorKind, Write};
 
 // Does a terminal show this byte as a character, and nothing else?
 fn is_plain(b: u8) -> bool
     ensures { result ≡ plain b }
 {
-    if b < b' ' {
-        return false;
-    }
-    if b > b'~' {
-        return false;
-    }
-    b != b'\\'
+    matches!(b, b' '..=b'~') && b != b'\\'
 }
 
 fn put_byte(out: &mut [u8], at: usize, b: u8) -> usize
@@ -42,10 +38,8 @@ fn put_shown(out: &mut [u8], at: usize, name: &[u8]) -> usize
     ensures { PutInTurn out.old at (shown name.now) out.new result }
 {
     let mut end = at;
-    let mut i = 0;
-    while i < name.len() {
-        end = put_byte(out, end, name[i]);
-        i += 1;
+    for b in name {
+        end = put_byte(out, end, *b);
     }
     end
 }
@@ -119,24 +113,77 @@ pub fn fail_output<E: Write>(errors: &mut E, room: &mut [u8], program: &[u8], wh
     fail(errors, room, program, b"standard output", why)
 }
 
-// Writes all of a text to standard output, or says on standard error why it cannot.
+// Writes all of a text to standard output. Where it cannot, `fail_output` says why, and the reason is answered.
 pub fn write<O: Write, E: Write>(
     output: &mut O,
     errors: &mut E,
     program: &[u8],
     text: &[u8],
-) -> bool
-    ensures { text.now ≡ [] → result ≡ true }
+) -> io::Result<()>
+    ensures empty { text.now ≡ [] → IsOk result }
+    ensures written { OnOk result (Appends (O.contents output.old) (O.contents output.new) text.now) }
 {
-    if text.len() == 0 {
-        return true;
+    if text.is_empty() {
+        return Ok(());
     }
-    match output.write_all(text) {
-        Ok(()) => true,
-        Err(why) => {
-            let mut room = [0u8; 65536];
-            fail_output(errors, &mut room, program, why);
-            false
+    let written = output.write_all(text);
+    if let Err(why) = written {
+        let mut room = [0u8; 65536];
+        fail_output(errors, &mut room, program, why);
+    }
+    written
+}
+
+// A program as it says something on standard error, or whatever stands for that: by its name, and by way of a room of its own, in which each
+// message stands before it goes out.
+#[derive(Drop)]
+pub struct Voice<'a, E, const N: usize> {
+    errors: E,
+    program: &'a [u8],
+    room: [u8; N],
+}
+
+impl<'a, E: Write, const N: usize> Voice<'a, E, N> {
+    pub fn new(errors: E, program: &'a [u8]) -> Self
+        ensures { result ≡ record { errors = errors; program = program.entry; room = replicate N 0 } }
+    {
+        Voice {
+            errors,
+            program,
+            room: [0u8; N],
         }
+    }
+
+    // As `say` does.
+    pub fn say(&mut self, name: &[u8], text: &[u8]) -> usize
+        ensures said { PutInTurn self.old.room 0 (message self.old.program.now name.now text.now) self.new.room result }
+        ensures program { self.new.program ≡ self.old.program }
+    {
+        say(&mut self.errors, &mut self.room, self.program, name, text)
+    }
+
+    // As `fail` does.
+    pub fn fail(&mut self, name: &[u8], why: Error) -> usize
+        ensures said { PutInTurn self.old.room 0 (about self.old.program.now name.now) self.new.room result }
+        ensures program { self.new.program ≡ self.old.program }
+    {
+        fail(&mut self.errors, &mut self.room, self.program, name, why)
+    }
+
+    // As `fail_output` does.
+    pub fn fail_output(&mut self, why: Error) -> usize
+        ensures said { PutInTurn self.old.room 0 (about self.old.program.now (ascii "standard output")) self.new.room result }
+        ensures program { self.new.program ≡ self.old.program }
+    {
+        fail_output(&mut self.errors, &mut self.room, self.program, why)
+    }
+
+    // As `write` does.
+    pub fn write<O: Write>(&mut self, output: &mut O, text: &[u8]) -> io::Result<()>
+        ensures empty { text.now ≡ [] → IsOk result }
+        ensures written { OnOk result (Appends (O.contents output.old) (O.contents output.new) text.now) }
+        ensures program { self.new.program ≡ self.old.program }
+    {
+        write(output, &mut self.errors, self.program, text)
     }
 }

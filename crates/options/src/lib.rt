@@ -4,18 +4,16 @@
 ghost use Rattle.std.specs.Prelude.{◌≡◌, ◌≤◌, length};
 ghost use Rattle.text.specs.Text.{ascii};
 ghost use Rattle.words.specs.Words.{same as sameWord};
-ghost use Rattle.options.specs.Options.{option_of, meaning, is_name, Meant, Requested, others_by, names_of, Refused};
+ghost use Rattle.options.specs.Options.{option_of, meaning, Meant, Requested, names_of, Refused};
 
 use std::env::FillError;
 use std::io::Write;
 use std::rt::Env;
 use words::{same, starts_with};
 
-// What a word asks for.
-#[derive(Clone, Copy)]
+// What a word that is no name asks for.
+#[derive(Clone, Copy, PartialEq, Eq)]
 pub enum Word {
-    // `-` among them, which names standard input
-    Name,
     // -h or --help
     Help,
     // --version
@@ -27,23 +25,16 @@ pub enum Word {
 }
 
 // Which option a word with a dash in front is.
-#[tactic(auto, unfolding(crate::specs::Options::option_of))]
+#[tactic(auto, unfolding(crate::specs::Options::option_of, words::specs::Words::same, words::specs::Words::starts_with))]
 fn option(bytes: &[u8]) -> Word
     ensures { result ≡ option_of bytes.now }
 {
-    if same(bytes, b"--") {
-        return Word::Rest;
+    match bytes {
+        b"--" => Word::Rest,
+        b"-h" | b"--help" => Word::Help,
+        b"--version" => Word::Version,
+        _ => Word::Unknown,
     }
-    if same(bytes, b"-h") {
-        return Word::Help;
-    }
-    if same(bytes, b"--help") {
-        return Word::Help;
-    }
-    if same(bytes, b"--version") {
-        return Word::Version;
-    }
-    Word::Unknown
 }
 
 // A dash alone, which names standard input.
@@ -53,25 +44,25 @@ pub fn is_dash(word: &[u8]) -> bool
     same(word, b"-")
 }
 
-// What a word asks for.
+// What a word asks for; a name, a dash alone among them, asks for nothing.
 #[tactic(auto, unfolding(crate::specs::Options::meaning))]
-pub fn classify(bytes: &[u8]) -> Word
+pub fn classify(bytes: &[u8]) -> Option<Word>
     ensures { result ≡ meaning bytes.now }
 {
     if is_dash(bytes) {
-        return Word::Name;
+        return None;
     }
     if starts_with(bytes, b"-") {
-        return option(bytes);
+        return Some(option(bytes));
     }
-    Word::Name
+    None
 }
 
-// What the arguments ask for together: the first of them that is no name, and its place. Where all are names, the place behind them.
+// What the arguments ask for together.
 #[derive(Clone, Copy)]
 pub struct Request {
-    pub word: Word,
-    pub at: usize,
+    // The first of them that is no name, and its place.
+    pub first: Option<(usize, Word)>,
     // How many arguments there are, the program's own name among them.
     pub count: usize,
 }
@@ -89,24 +80,17 @@ pub fn argument<A: Env>(arguments: &A, i: usize, room: &mut [u8]) -> usize
 
 fn is_argument<A: Env>(arguments: &A, i: usize) -> bool {
     let mut room = [0u8; 1];
-    match arguments.arg(i, &mut room) {
-        Ok(_) => true,
-        Err(FillError::TooLong) => true,
-        Err(FillError::NotPresent) => false,
-    }
+    !matches!(arguments.arg(i, &mut room), Err(FillError::NotPresent))
 }
 
 // How many arguments there are, the program's own name among them.
 fn argument_count<A: Env>(arguments: &A) -> usize {
-    for i in 0..usize::MAX {
-        if !is_argument(arguments, i) {
-            return i;
-        }
-    }
-    usize::MAX
+    (0..usize::MAX)
+        .find(|i| !is_argument(arguments, *i))
+        .unwrap_or(usize::MAX)
 }
 
-fn word_at<A: Env>(arguments: &A, i: usize) -> Word
+fn word_at<A: Env>(arguments: &A, i: usize) -> Option<Word>
     ensures { Meant result }
 {
     let mut room = [0u8; 4096];
@@ -114,60 +98,29 @@ fn word_at<A: Env>(arguments: &A, i: usize) -> Word
     classify(&room[..n])
 }
 
-fn is_name(word: Word) -> bool
-    ensures { result ≡ is_name word }
-{
-    match word {
-        Word::Name => true,
-        Word::Help => false,
-        Word::Version => false,
-        Word::Rest => false,
-        Word::Unknown => false,
-    }
-}
-
 pub fn read_request<A: Env>(arguments: &A) -> Request
     ensures { Requested result }
 {
     let count = argument_count(arguments);
-    let mut i = 1;
-    while i < count {
-        let word = word_at(arguments, i);
-        if !is_name(word) {
-            return Request { word, at: i, count };
+    for i in 1..count {
+        if let Some(word) = word_at(arguments, i) {
+            return Request {
+                first: Some((i, word)),
+                count,
+            };
         }
-        i += 1;
     }
-    Request {
-        word: Word::Name,
-        at: i,
-        count,
-    }
+    Request { first: None, count }
 }
 
-// How many of the arguments are no names: the program's own, and `--`.
-fn others(word: Word) -> usize
-    ensures { result ≡ others_by word }
-{
-    match word {
-        Word::Name => 1,
-        Word::Help => 2,
-        Word::Version => 2,
-        Word::Rest => 2,
-        Word::Unknown => 2,
+impl Request {
+    // How many names there are, where no option but `--` is among the arguments: all but the program's own and `--`.
+    pub fn name_count(&self) -> usize
+        ensures { result ≡ names_of self.now }
+    {
+        let others = if self.first.is_none() { 1 } else { 2 };
+        self.count.saturating_sub(others)
     }
-}
-
-// How many names there are, where no option but `--` is among the arguments.
-pub fn name_count(request: Request) -> usize
-    ensures { result ≡ names_of request }
-{
-    let word = request.word;
-    let others = others(word);
-    if request.count < others {
-        return 0;
-    }
-    request.count - others
 }
 
 // Says that the option at a place is unknown, as `messages::say` does.

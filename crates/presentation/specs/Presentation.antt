@@ -1,12 +1,11 @@
 -- Presentation time, as document 01's section of that name has it, in its order, with request #102 for T where SPH is 1, request #106 for the
 -- kind half a wrap away and request #107 for the transit limit. L is the arrival time, T the stamp, d the offset; the limit is in nanoseconds,
 -- as these are.
-use Rattle.std.specs.Prelude.{ℕ, ◌+◌, ◌<◌, ◌≤◌, ◌≡◌, Bool, false, cond, List, eqb, ltb, ℤ, pos, negsuc, neg_ℤ, ◌+ℤ◌, length}
+use Rattle.std.specs.Prelude.{ℕ, ◌+◌, ◌<◌, ◌≤◌, ◌≡◌, Bool, false, cond, List, eqb, ltb, ℤ, pos, negsuc, neg_ℤ, ◌+ℤ◌, length, Option, Some}
 use Rattle.wire.specs.Numbers.{number_at}
 use Rattle.frame.specs.declared.layout.Cip.{Cip}
 use Rattle.frame.specs.declared.layout.Fields.{Fields}
-use Rattle.source_packet.specs.declared.Start.{Start}
-use Rattle.source_packet.specs.declared.Start.TheVariants.{Nowhere, Block}
+use Rattle.std.specs.Prelude as option
 use Rattle.source_packet.specs.Blocks.{block_at, first_start}
 use Rattle.presentation.specs.declared.Kind.{Kind}
 use Rattle.presentation.specs.declared.Kind.TheVariants.{None, Cut, Outside, Late, Ahead, Unclear, Far}
@@ -22,9 +21,9 @@ abbrev pub avtp_stamp : Fields → Stamp
 avtp_stamp f = cond f.header.avtp.tv (Present f.header.stream.timestamp) Absent
 
 -- the stamp that opens a block: its first four bytes; absent where there is no such block
-abbrev pub stamp_at : Cip → List ℕ → Start → Stamp
-stamp_at c payload Nowhere = Absent
-stamp_at c payload (Block i) = Present (number_at 0 4 (block_at c payload i))
+abbrev pub stamp_at : Cip → List ℕ → Option ℕ → Stamp
+stamp_at c payload option.None = Absent
+stamp_at c payload (Some i) = Present (number_at 0 4 (block_at c payload i))
 
 -- where SPH is 1: absent from an empty payload, cut short in one of one to three bytes; else T is "the first four bytes of the first such
 -- block in the frame" (request #102), and absent if there is none

@@ -6,9 +6,9 @@ ghost use Rattle.presentation.specs.Offset.{OneOffset, OffsetEdges};
 ghost use Rattle.presentation.specs.Presentation.{untimed, source_packet_stamp, timing_of, timing_within, timing, UnclearAtHalfWrap, FarAboveLimit, presentation_within, presentation};
 
 use frame::layout::{Cip, Fields};
-use source_packet::Start;
+use std::fmt;
 
-#[derive(Clone, Copy)]
+#[derive(Clone, Copy, Debug, PartialEq, Eq)]
 pub enum Kind {
     None,
     Cut,
@@ -19,7 +19,27 @@ pub enum Kind {
     Far,
 }
 
-#[derive(Clone, Copy)]
+// As document 01 has it, and requests #106 and #107.
+impl fmt::Display for Kind {
+    ghost use Rattle.std.specs.Prelude.{Some};
+    ghost use Rattle.presentation.specs.Kinds.{kind_name};
+
+    ghost output = { λ kind. Some (kind_name kind) };
+
+    fn fmt<W: fmt::Write>(&self, f: &mut fmt::Formatter<W>) -> fmt::Result {
+        f.write_str(match self {
+            Kind::None => "none",
+            Kind::Cut => "cut",
+            Kind::Outside => "outside",
+            Kind::Late => "late",
+            Kind::Ahead => "ahead",
+            Kind::Unclear => "unclear",
+            Kind::Far => "far",
+        })
+    }
+}
+
+#[derive(Clone, Copy, Debug, PartialEq, Eq)]
 pub struct Timing {
     pub kind: Kind,
     pub offset: i64,
@@ -27,7 +47,7 @@ pub struct Timing {
 }
 
 // What a frame has of a stamp: nothing, too few bytes for one, or the stamp T.
-#[derive(Clone, Copy)]
+#[derive(Clone, Copy, Debug, PartialEq, Eq)]
 pub enum Stamp {
     Absent,
     Short,
@@ -68,33 +88,25 @@ pub fn reckon_within(arrival_time: u64, stamp: u32, limit: u32) -> Timing
         if back == HALF_WRAP {
             return untimed(Kind::Unclear, offset);
         }
-        if arrival_time < back {
+        let Some(time) = arrival_time.checked_sub(back) else {
             return untimed(Kind::Outside, offset);
-        }
+        };
         return Timing {
             kind: Kind::Late,
-            offset,
-            time: arrival_time - back,
-        };
-    }
-    let on = distance - HALF_WRAP;
-    let left = u64::MAX - arrival_time;
-    if left < on {
-        return untimed(Kind::Outside, offset);
-    }
-    let time = arrival_time + on;
-    if on > limit as u64 {
-        return Timing {
-            kind: Kind::Far,
             offset,
             time,
         };
     }
-    Timing {
-        kind: Kind::Ahead,
-        offset,
-        time,
-    }
+    let on = distance - HALF_WRAP;
+    let Some(time) = arrival_time.checked_add(on) else {
+        return untimed(Kind::Outside, offset);
+    };
+    let kind = if on > limit as u64 {
+        Kind::Far
+    } else {
+        Kind::Ahead
+    };
+    Timing { kind, offset, time }
 }
 
 // The same without a record: with the largest limit.
@@ -105,6 +117,7 @@ pub fn reckon(arrival_time: u64, stamp: u32) -> Timing
 }
 
 // The stamp in a payload, where SPH is 1: it opens the first source packet that starts there.
+#[tactic(auto, unfolding(crate::specs::Presentation::source_packet_stamp))]
 fn source_packet_stamp(cip: Cip, payload: &[u8]) -> Stamp
     ensures { result ≡ source_packet_stamp cip payload.now }
 {
@@ -114,7 +127,7 @@ fn source_packet_stamp(cip: Cip, payload: &[u8]) -> Stamp
     if payload.len() < 4 {
         return Stamp::Short;
     }
-    let Start::Block(i) = source_packet::first_start(cip, payload) else {
+    let Some(i) = source_packet::first_start(cip, payload) else {
         return Stamp::Absent;
     };
     let at = i * frame::checks::block_bytes(cip.dbs);
@@ -134,6 +147,7 @@ fn timing_of(arrival_time: u64, stamp: Stamp, limit: u32) -> Timing
 
 // The presentation time of a frame with these fields and this payload, of a stream with this limit: of its AVTP timestamp, or where SPH is 1 of
 // a stamp in its payload. The two are reckoned apart: a stamp that is the one or the other costs two instructions more for every frame.
+#[tactic(auto, unfolding(crate::specs::Presentation::presentation_within, crate::specs::Presentation::stamp_of))]
 pub fn judge_time_within(arrival_time: u64, fields: Fields, payload: &[u8], limit: u32) -> Timing
     ensures { result ≡ presentation_within limit arrival_time fields payload.now }
 {
@@ -158,21 +172,25 @@ pub fn judge_time(arrival_time: u64, fields: Fields, payload: &[u8]) -> Timing
 }
 
 // The offset is the one number in range for which L + d and T are equal modulo a wrap.
+
 fn one_offset()
     ensures { OneOffset }
 {}
 
 // What the offset is at zero, at both ends and at the wrap.
+#[tactic(auto, using(crate::proofs::Offset::offset_edges))]
 fn offset_edges()
     ensures { OffsetEdges }
 {}
 
 // The kind is unclear half a wrap away, and nowhere else.
+#[tactic(auto, using(crate::proofs::Reckoning::unclear_at_half_wrap))]
 fn unclear_at_half_wrap()
     ensures { UnclearAtHalfWrap }
 {}
 
 // The kind is far where the stamp is ahead by more than the limit, and nowhere else; what is not far does not go by the limit.
+#[tactic(auto, using(crate::proofs::Limits::far_above_limit))]
 fn far_above_limit()
     ensures { FarAboveLimit }
 {}

@@ -2,7 +2,8 @@
 // what goes to a terminal tells by itself how far it has come, and a pipe may end at the same terminal.
 #![tactic(auto)]
 
-ghost use Rattle.std.specs.Prelude.{◌≡◌, false};
+ghost use Rattle.std.specs.Prelude.{◌≡◌};
+ghost use Rattle.progress.specs.declared.Shown.TheVariants.{Unticked};
 ghost use Rattle.progress.specs.Progress.{ticked, Told, hidden};
 
 use std::fs;
@@ -10,16 +11,24 @@ use std::io::IsTerminal;
 use std::os::unix::fs::FileTypeExt;
 use std::time::{SystemTime, UNIX_EPOCH};
 
+// What stands on the terminal. The first tick may come at once, so that progress is shown from the second on.
+#[derive(Clone, Copy, PartialEq, Eq)]
+enum Shown {
+    // nothing: the clock has not ticked since the start
+    Unticked,
+    // nothing yet, or no more: it is shown at the next tick
+    Ticked,
+    // the progress
+    Visible,
+}
+
 #[derive(Clone, Copy)]
 pub struct Progress {
     // Is it to be shown at all?
     wanted: bool,
     // The second that the clock showed last.
     second: u64,
-    // It has ticked since the start.
-    ticked: bool,
-    // The progress stands on the terminal.
-    shown: bool,
+    shown: Shown,
 }
 
 // The clock's second, and 0 where it has none.
@@ -27,35 +36,27 @@ fn clock(rt: HostRuntime) -> u64 {
     let Ok(now) = SystemTime::now(&rt) else {
         return 0;
     };
-    match now.duration_since(UNIX_EPOCH) {
-        Ok(since) => since.as_secs(),
-        Err(_) => 0,
-    }
+    now.duration_since(UNIX_EPOCH)
+        .map_or(0, |since| since.as_secs())
 }
 
 // Has standard output a place to write at, which no terminal and no pipe has?
 fn is_file(rt: HostRuntime) -> bool {
-    if rt.stdout().is_terminal() {
-        return false;
-    }
-    match fs::metadata(&rt, "/dev/stdout") {
-        Ok(metadata) => {
+    !rt.stdout().is_terminal()
+        && fs::metadata(&rt, "/dev/stdout").is_ok_and(|metadata| {
             let kind = metadata.file_type();
             !kind.is_fifo() && !kind.is_socket()
-        }
-        Err(_) => false,
-    }
+        })
 }
 
 // A run begins.
 pub fn start(rt: HostRuntime) -> Progress
-    ensures { (result.ticked ≡ false) × (result.shown ≡ false) }
+    ensures { result.shown ≡ Unticked }
 {
     Progress {
         wanted: rt.stderr().is_terminal() && is_file(rt),
         second: clock(rt),
-        ticked: false,
-        shown: false,
+        shown: Shown::Unticked,
     }
 }
 
@@ -66,12 +67,11 @@ fn tick(p: Progress, second: u64) -> Progress
     if p.second == second {
         return p;
     }
-    Progress {
-        wanted: p.wanted,
-        second,
-        ticked: true,
-        shown: p.ticked,
-    }
+    let shown = match p.shown {
+        Shown::Unticked => Shown::Ticked,
+        Shown::Ticked | Shown::Visible => Shown::Visible,
+    };
+    Progress { second, shown, ..p }
 }
 
 fn show(rt: HostRuntime, records: u64) {
@@ -86,7 +86,7 @@ pub fn tell(rt: HostRuntime, p: Progress, records: u64) -> Progress
         return p;
     }
     let next = tick(p, clock(rt));
-    if next.shown && next.second != p.second {
+    if next.shown == Shown::Visible && next.second != p.second {
         show(rt, records);
     }
     next
@@ -96,13 +96,14 @@ pub fn tell(rt: HostRuntime, p: Progress, records: u64) -> Progress
 pub fn hide(rt: HostRuntime, p: Progress) -> Progress
     ensures { result ≡ hidden p }
 {
-    if p.shown {
-        let _ = eprint!(rt; "\r                            \r");
-    }
-    Progress {
-        wanted: p.wanted,
-        second: p.second,
-        ticked: p.ticked,
-        shown: false,
+    match p.shown {
+        Shown::Unticked | Shown::Ticked => p,
+        Shown::Visible => {
+            let _ = eprint!(rt; "\r                            \r");
+            Progress {
+                shown: Shown::Ticked,
+                ..p
+            }
+        }
     }
 }

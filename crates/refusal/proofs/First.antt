@@ -1,17 +1,17 @@
--- What the first check that applies answers. `search firsts depth 9` proves `n ≡ first_of ..` of a group of checks from the tests on
--- the way; `search groups depth 9` proves `n ≡ or_else ..` of several groups from what each answered. Assumes nothing.
+-- What the first check that applies answers, and what `?` makes of it. Assumes nothing.
 use Prim.Native.Nat.{ℕ, zero, suc, ◌<◌}
 use mathlib.Core.Path.{◌≡◌, refl}
 use mathlib.Core.Bool.{Bool, true, false, not, ◌&&◌, cond}
 use mathlib.Core.List.{List, [], ◌∷◌, ◌++◌}
 use native.Mathlib.Omega.{arith}
-use borrow.Author.Tests.{lt-ltb, le-ltb, eq-eqb, ne_eqb}
+use borrow.Author.Tests.{eq-eqb}
 use lib.Dec.{T, eqb, ltb, ltb→lt}
 use mir.Facts.{and_yes}
 use Rattle.refusal.specs.declared.Refusal.{Refusal}
 use Rattle.refusal.specs.declared.Refusal.TheVariants.{FrameTooShort, FrameTooLong, WrongTpid, CfiSet, WrongEthertype, ControlAvtpdu, WrongSubtype, WrongVersion, NoStreamId, WrongAddress, DataBeyondFrame, WrongTag, NoCipHeader, PartialBlock, NotAdmitted, WrongQpc, TableTooLong, AlreadyAdmitted, TableFull, NothingToRemove, LimitTooLarge, WriteWrongAddress, WriteFieldTooWide, WritePartialBlock, WritePayloadTooLong, WriteOutputTooShort, RecordCut, RecordLength, RecordKind, RecordRetired, CycleTooLarge, OffsetInCycleTooLarge, CycleSecondsTooLarge}
-use Rattle.refusal.specs.declared.Verdict.{Verdict}
-use Rattle.refusal.specs.declared.Verdict.TheVariants.{Passed, Refused}
+use Rattle.std.specs.Prelude.{Result, Ok, Err}
+use Rattle.std.specs.Result.{IsErrAnd}
+use Rattle.std.proofs.lemmas.Result.{err_from_is_err_and}
 use Rattle.refusal.specs.Refusals.{verdict_number, number_of, Check, ◌answers◌, first_of}
 
 -- no refusal has the number 0
@@ -50,21 +50,9 @@ positive CycleTooLarge = (60, refl)
 positive OffsetInCycleTooLarge = (61, refl)
 positive CycleSecondsTooLarge = (62, refl)
 
--- ---- within a group
-
-pub hit : (b : Bool) (n m : ℕ) → b ≡ true → n ≡ cond b n m
-hit b n m e = rw e refl
-
-pub miss : (b : Bool) (n m r : ℕ) → b ≡ false → r ≡ m → r ≡ cond b n m
-miss b n m r e q = rw e q
-
-pub ne_not : (a b : ℕ) → (a ≡ b → ⊥) → not (eqb a b) ≡ true
-ne_not a b h = rw (ne_eqb a b h) refl
-
+-- a check that asks whether two numbers differ does not apply to equal ones
 pub eq_not : (a b : ℕ) → a ≡ b → not (eqb a b) ≡ false
 eq_not a b h = rw (eq-eqb a b h) refl
-
-pub ruleset firsts = (hit, miss, ne_not, eq_not, lt-ltb, le-ltb, eq-eqb, ne_eqb)
 
 -- ---- where no check applies
 
@@ -109,17 +97,21 @@ then ((b answers n) ∷ xs) ys h =
     let p = and_yes (ltb 0 n) (numbered xs) h in
     rw (then xs ys p.1) (or_pick b n (first_of xs) (first_of ys) (ltb→lt 0 n p.0))
 
-pub stop : (x : Verdict) (r : Refusal) (v w : ℕ) → verdict_number x ≡ v → x ≡ Refused r → number_of r ≡ or_else v w
+pub stop : (r : Refusal) (v w : ℕ) → number_of r ≡ v → number_of r ≡ or_else v w
 unfolding or_else
-stop x r v w e z = let p = positive r in rw (← e, z, p.1)
+stop r v w e = let p = positive r in rw (← e, p.1)
 
-pub go : (x : Verdict) (v w y : ℕ) → verdict_number x ≡ v → x ≡ Passed → y ≡ w → y ≡ or_else v w
+pub go : (v w y : ℕ) → 0 ≡ v → y ≡ w → y ≡ or_else v w
 unfolding or_else
-go x v w y e z q = rw (← e, z) q
-
-pub ruleset groups = (stop, go)
+go v w y e q = rw (← e) q
 
 pub both : (v w : ℕ) → or_else v w ≡ 0 → (v ≡ 0) × (w ≡ 0)
 unfolding or_else
 both zero w e = (refl, e)
 both (suc v) w e = absurd (omega arith)
+
+-- ---- what `?` passes on
+
+-- the refusal itself
+pub passed_on : {A : Type 0} (x : Result A Refusal) (r : Refusal) → IsErrAnd x (λ y. y ≡ r) → x ≡ Err r
+passed_on x r h = let p = err_from_is_err_and x h in rw (p.1, p.2) refl

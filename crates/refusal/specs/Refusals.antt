@@ -1,9 +1,7 @@
 -- The numbers answered (document 01, Numbers answered; requests #101, #105, #107 and #109).
-use Rattle.std.specs.Prelude.{ℕ, zero, suc, Bool, not, cond, List, [], ◌∷◌, eqb}
+use Rattle.std.specs.Prelude.{ℕ, zero, suc, Bool, not, cond, List, [], ◌∷◌, eqb, Result, Ok, Err}
 use Rattle.refusal.specs.declared.Refusal.{Refusal}
 use Rattle.refusal.specs.declared.Refusal.TheVariants.{FrameTooShort, FrameTooLong, WrongTpid, CfiSet, WrongEthertype, ControlAvtpdu, WrongSubtype, WrongVersion, NoStreamId, WrongAddress, DataBeyondFrame, WrongTag, NoCipHeader, PartialBlock, NotAdmitted, WrongQpc, TableTooLong, AlreadyAdmitted, TableFull, NothingToRemove, LimitTooLarge, WriteWrongAddress, WriteFieldTooWide, WritePartialBlock, WritePayloadTooLong, WriteOutputTooShort, RecordCut, RecordLength, RecordKind, RecordRetired, CycleTooLarge, OffsetInCycleTooLarge, CycleSecondsTooLarge}
-use Rattle.refusal.specs.declared.Verdict.{Verdict}
-use Rattle.refusal.specs.declared.Verdict.TheVariants.{Passed, Refused}
 
 abbrev pub number_of : Refusal → ℕ
 number_of FrameTooShort = 1
@@ -40,10 +38,10 @@ number_of CycleTooLarge = 61
 number_of OffsetInCycleTooLarge = 62
 number_of CycleSecondsTooLarge = 63
 
--- the number of a verdict: 0 where no check applies
-abbrev pub verdict_number : Verdict → ℕ
-verdict_number Passed = 0
-verdict_number (Refused r) = number_of r
+-- the number of what some checks answer, whatever is accepted: 0 where none of them applies
+abbrev pub verdict_number : {A : Type 0} → Result A Refusal → ℕ
+verdict_number (Ok _) = 0
+verdict_number (Err r) = number_of r
 
 -- where a number decides: 0, the number of what is accepted, gives the one, and any other gives the other
 abbrev pub if_accepted {ℓ} : {A : Type ℓ} → ℕ → A → A → A

@@ -11,21 +11,25 @@ fn totals_of_lines()
 {}
 
 // Each stream has one line.
+#[tactic(auto, using(crate::proofs::Totals::one_line_each))]
 fn one_line_each()
     ensures { OneLineEach }
 {}
 
 // The report is the text of the table at the end.
+#[tactic(auto, using(crate::proofs::Totals::report_of_table))]
 fn report_of_table()
     ensures { ReportOfTable }
 {}
 
 // The kinds add up to the accepted frames while that count is below its cap.
+#[tactic(auto, using(crate::proofs::AddingUp::kinds_add_up))]
 fn kinds_add_up()
     ensures { KindsAddUp }
 {}
 
 // A report in any chunks is the report of the whole.
+#[tactic(auto, using(crate::proofs::InChunks::report_in_chunks))]
 fn report_in_chunks()
     ensures { ReportInChunks }
 {}

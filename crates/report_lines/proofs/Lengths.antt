@@ -1,7 +1,7 @@
 -- How long the parts of a line are at most, by how long their columns are. Assumes nothing.
 use Prim.Native.Nat.{ℕ, ◌+◌, ◌≤◌}
 use mathlib.Core.Path.{◌≡◌}
-use mathlib.Core.List.{List, [], ◌∷◌, ◌++◌, append_assoc}
+use mathlib.Core.List.{List, [], ◌∷◌, ◌++◌, append_assoc, append-nil}
 use native.Mathlib.Omega.{arith}
 use lib.IntN.{ℤ}
 use lib.ListN.{length, length-append}
@@ -9,18 +9,22 @@ use Rattle.stream.specs.declared.Counts.{Counts}
 use Rattle.tally.specs.declared.Kinds.{Kinds}
 use Rattle.text.specs.Text.{ascii, decimal, signed}
 use Rattle.report_lines.specs.Columns.{column, counts_text, kinds_text, mean_text, summed_text, stream_line}
+use Rattle.report_lines.specs.Private.{columns}
 
-pub one_longer : (text : List ℕ) (byte k : ℕ) → length text ≤ k → length (text ++ (byte ∷ [])) ≤ k + 1
-one_longer text byte k h = simp length-append (omega arith)
+pub one_longer : (text behind : List ℕ) → length text ≤ 20 → length behind ≡ 1 → length (text ++ behind) ≤ 21
+one_longer text behind h one = rw (length-append text behind) (omega arith)
 
 five : (a b c d e : List ℕ) → length (a ++ b ++ c ++ d ++ e) ≡ length a + length b + length c + length d + length e
 five a b c d e = simp length-append
 
-pub five_columns : (a b c d e : ℕ) → length (column (decimal a)) ≤ 21 → length (column (decimal b)) ≤ 21 → length (column (decimal c)) ≤ 21 → length (column (decimal d)) ≤ 21 → length (column (decimal e)) ≤ 21 → length (column (decimal a) ++ column (decimal b) ++ column (decimal c) ++ column (decimal d) ++ column (decimal e)) ≤ 105
-five_columns a b c d e f g h i j = rw (five (column (decimal a)) (column (decimal b)) (column (decimal c)) (column (decimal d)) (column (decimal e))) (omega arith)
+-- columns in a row
+pub counts_columns : (c : Counts) → columns (c.frames ∷ c.sequence_breaks ∷ c.block_breaks ∷ c.format_changes ∷ c.mr_changes ∷ []) ≡ counts_text c
+unfolding columns counts_text
+counts_columns c = simp (append_assoc, append-nil)
 
-pub column_more : (text : List ℕ) (n k : ℕ) → length text ≤ k → length (column (decimal n)) ≤ 21 → length (text ++ column (decimal n)) ≤ k + 21
-column_more text n k h i = rw (length-append text (column (decimal n))) (omega arith)
+pub kinds_columns : (k : Kinds) → columns (k.none ∷ k.cut ∷ k.outside ∷ k.late ∷ k.ahead ∷ k.unclear ∷ k.far ∷ []) ≡ kinds_text k
+unfolding columns kinds_text
+kinds_columns k = simp (append_assoc, append-nil)
 
 pub mean_length : (total : ℤ) (count : ℕ) → length (signed total) ≤ 21 → length (column (decimal count)) ≤ 21 → length (column (mean_text total count)) ≤ 43
 unfolding mean_text

@@ -1,3 +1,3 @@
 pub mod Differences
 pub mod Lengths
-pub mod Tables
+pub mod Each

@@ -15,7 +15,7 @@ use Rattle.writer.specs.Frames.{frame_bytes}
 use Rattle.writer.specs.Writing.{write_refusal, advanced, writing}
 use Rattle.round_trip.specs.ReadBack.{SenderTyped, GivenTyped, header_written, cip_written, fields_written, frame_left}
 use Rattle.round_trip.specs.WriteBack.{Carries}
-use Rattle.round_trip.specs.Successive.{Call, successive, CallsTyped, Delivered, Gapless, sender_after}
+use Rattle.round_trip.specs.Successive.{Call, successive, CallsTyped, Delivered, Gapless, sender_after, Successive}
 use Rattle.round_trip.proofs.ReadBack.{left_bytes, fields_back, refusal_back, payload_back}
 
 pub advanced_typed : (s : Sender) (g : Given) (payload : List ℕ) → SenderTyped (advanced s g payload)
@@ -86,3 +86,6 @@ gapless s [] [] sender given h = tt
 gapless s [] (frame ∷ frames) sender given h = absurd h
 gapless s (c ∷ cs) frames sender given h =
     serve s c cs sender given.0 (λ t typed rest. gapless t cs rest typed given.1) (write_refusal c.given (length c.payload) (length c.out)) refl frames h
+
+pub successive_frames : Successive
+successive_frames = record { block_count_stays = block_count_stays; gapless = gapless }

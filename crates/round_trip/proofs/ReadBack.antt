@@ -21,7 +21,7 @@ use Rattle.writer.specs.declared.given.Given.{Given}
 use Rattle.writer.specs.Frames.{vlan_values, valid_values, uncertain_values, packet_values, source_values, fraction_values, format_values, ethernet_bytes, avtp_bytes, stream_bytes, source_bytes, format_bytes, cip_bytes, data_length, header_bytes, frame_length, frame_bytes}
 use Rattle.writer.specs.Writing.{cip_values, cip_row, write_refusal, writing, output}
 use Rattle.round_trip.specs.ReadBack.{SenderTyped, GivenTyped, header_written, cip_written, fields_written, frame_left, ReadBack}
-use Rattle.writer.proofs.Accepted.{Fitting, Accepted, accepted, fitting, packet_fit, cip_fit}
+use Rattle.writer.proofs.Accepted.{Fitting, Accepted, Rows, accepted, fitting, rows}
 use Rattle.round_trip.proofs.RowsBack.{bit_lt, row_back, flag_back}
 
 -- one fact, and then others
@@ -81,20 +81,23 @@ module _ (s : Sender) (g : Given) (p padding : List ℕ) (room : ℕ) (sender : 
   fit : Fitting g
   fit = fitting g ready.fits
 
+  row : Rows g
+  row = rows g ready.fits
+
   -- the first 42 bytes, whatever comes behind them
   header_back : (rest : List ℕ) → header_of (header_bytes s g (length p) ++ rest) ≡ header_written s g (length p)
   unfolding ethernet_of avtp_of stream_of header_of ethernet_bytes avtp_bytes stream_bytes header_bytes header_written
   header_back rest =
-      let vlan = row_back 2 vlan_row (vlan_values g.ethernet) fit.vlan refl in
+      let vlan = row_back 2 vlan_row (vlan_values g.ethernet) row.vlan refl in
       let avtp = flag_back 1 valid_row (valid_values g.avtp) valid_fit refl in
-      let packet = row_back 2 packet_row (packet_values g.stream) (packet_fit g fit) refl in
+      let packet = row_back 2 packet_row (packet_values g.stream) row.packet refl in
       λ i. record {
         ethernet = record {
           destination = number_of 6 g.ethernet.destination fit.addresses.0 i;
           source = number_of 6 g.ethernet.source fit.addresses.1.0 i;
           tpid = 0x8100;
           pcp = vlan 0 i;
-          cfi = flag_back 2 vlan_row (vlan_values g.ethernet) fit.vlan refl 1 false refl i;
+          cfi = flag_back 2 vlan_row (vlan_values g.ethernet) row.vlan refl 1 false refl i;
           vid = vlan 2 i;
           ethertype = 0x22F0;
         };
@@ -125,16 +128,15 @@ module _ (s : Sender) (g : Given) (p padding : List ℕ) (room : ℕ) (sender : 
       → cip_if has ((header_bytes s g (length p) ++ cip_bytes has g.cip s.dbc ++ p) ++ padding) ≡ cond has (cip_written s.dbc g.cip) no_cip
   unfolding cip_of ethernet_bytes avtp_bytes stream_bytes source_bytes format_bytes header_bytes cip_written
   cip_back true within =
-      let rows = cip_fit g.cip within in
       let fraction = fraction_values g.cip in
       λ i. record {
-        sid = row_back 1 source_row (source_values g.cip) rows.source refl 1 i;
+        sid = row_back 1 source_row (source_values g.cip) row.source refl 1 i;
         dbs = number_of 1 g.cip.dbs within.1.0 i;
-        fraction_number = row_back 1 fraction_row fraction rows.fraction refl 0 i;
-        qpc = row_back 1 fraction_row fraction rows.fraction refl 1 i;
-        sph = flag_back 1 fraction_row fraction rows.fraction refl 2 g.cip.sph refl i;
+        fraction_number = row_back 1 fraction_row fraction row.fraction refl 0 i;
+        qpc = row_back 1 fraction_row fraction row.fraction refl 1 i;
+        sph = flag_back 1 fraction_row fraction row.fraction refl 2 g.cip.sph refl i;
         dbc = number_of 1 s.dbc sender.dbc i;
-        fmt = row_back 1 format_row (format_values g.cip) rows.format refl 1 i;
+        fmt = row_back 1 format_row (format_values g.cip) row.format refl 1 i;
         fdf = number_of 1 g.cip.fdf within.1.1.1.1.1.1.0 i;
         low_half = number_of 2 g.cip.low_half within.1.1.1.1.1.1.1.0 i;
       }

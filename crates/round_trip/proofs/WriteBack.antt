@@ -26,7 +26,7 @@ use Rattle.frame.proofs.Groups.{frame_numbered, accepted_room}
 use Rattle.writer.specs.declared.Sender.{Sender}
 use Rattle.writer.specs.Frames.{vlan_values, packet_values, ethernet_bytes, avtp_bytes, stream_bytes, source_bytes, format_bytes, cip_bytes, data_length, header_bytes, frame_bytes}
 use Rattle.writer.specs.Writing.{output, address_row, low_tag_row, cip_values, cip_row, ethernet_fits, stream_fits, cip_fits, fields_fit, write_checks, write_refusal}
-use Rattle.round_trip.specs.WriteBack.{FixedCipBits, FixedBits, Carries, cip_given_of, given_of, unpadded}
+use Rattle.round_trip.specs.WriteBack.{FixedCipBits, FixedBits, Carries, cip_given_of, given_of, unpadded, WriteBack}
 use Rattle.round_trip.proofs.ReadBack.{size, output_of}
 use Rattle.round_trip.proofs.RowsBack.{bit_lt}
 
@@ -237,3 +237,10 @@ module _ (frame : List ℕ) (byte : Bytes frame) (ok : refusal frame ≡ 0) wher
         let k = unpadded frame in
         let e = write_number (length out) ∙ ap (λ (b : Bool). cond b 35 0) (le-ltb (length out) k h) in
         output_of s (given_of (fields_of frame)) (payload_of frame) out e ∙ ap (λ (l : List ℕ). l ++ drop k out) write_bytes
+
+pub write_back : WriteBack
+write_back =
+    record {
+      number = λ frame room bytes ok. write_number frame bytes ok room;
+      left = λ frame out s bytes ok fixed carried. left frame bytes ok s fixed carried out;
+    }

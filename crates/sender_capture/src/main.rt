@@ -5,8 +5,8 @@
 ghost use Rattle.std.specs.Prelude.{◌≤◌};
 
 use std::io;
+use writer::Sender;
 use writer::given::{AvtpFields, CipFields, EthernetFields, Given, StreamFields};
-use writer::{Sender, Written};
 
 fn given(timestamp: u32) -> Given {
     Given {
@@ -43,53 +43,29 @@ fn given(timestamp: u32) -> Given {
     }
 }
 
-// A number of 64 bits, the least significant byte first.
-fn put_le64(rt: HostRuntime, n: u64) -> io::Result<()> {
-    let bytes = [
-        (n % 256) as u8,
-        (n / 0x100 % 256) as u8,
-        (n / 0x1_0000 % 256) as u8,
-        (n / 0x100_0000 % 256) as u8,
-        (n / 0x1_0000_0000 % 256) as u8,
-        (n / 0x100_0000_0000 % 256) as u8,
-        (n / 0x1_0000_0000_0000 % 256) as u8,
-        (n / 0x100_0000_0000_0000 % 256) as u8,
-    ];
-    rt.write_all(&bytes)
-}
-
 // Kind 2: eight id bytes in wire order.
 fn put_admission(rt: HostRuntime) -> io::Result<()> {
     rt.write_all(b"\x0a\x00\x02\x00\x00\x00\x00\x00\x00\x00\x00\x01")
 }
 
-// Kind 1: a frame of at most 245 bytes, so that one byte holds the record's length.
-fn put_arrival(rt: HostRuntime, arrival_time: u64, frame: &[u8]) -> io::Result<()> {
-    let n = frame.len();
-    if n > 245 {
-        return Ok(());
-    }
-    let start = [(n + 10) as u8, 0, 1, 0];
-    rt.write_all(&start)?;
-    put_le64(rt, arrival_time)?;
-    rt.write_all(frame)
-}
-
-// A frame with this many blocks of eight bytes, due at a time and arriving at half of it.
-fn send(rt: HostRuntime, sender: Sender, time: u32, blocks: usize) -> io::Result<Sender>
+// Kind 1: a frame with this many blocks of eight bytes, due at a time and arriving at half of it.
+fn send(rt: HostRuntime, sender: &mut Sender, time: u32, blocks: usize) -> io::Result<()>
     requires { blocks ≤ 15 }
 {
-    let payload = [0x55u8; 120];
-    let mut out = [0u8; 170];
     let n = 8 * blocks;
-    match writer::write(sender, given(time), &payload[0..n], &mut out) {
-        Written::Refused(_, same) => Ok(same),
-        Written::Sent(next) => {
-            let end = 50 + n;
-            put_arrival(rt, time as u64 / 2, &out[0..end])?;
-            Ok(next)
-        }
+    let payload = [0x55; 120];
+    let mut out = [0; 170];
+    if writer::write(sender, given(time), &payload[..n], &mut out).is_err() {
+        return Ok(());
     }
+    let frame = &out[..50 + n];
+    // The record's length counts the kind and the arrival time too.
+    let record_length = (frame.len() + 10) as u16;
+    let arrival_time = u64::from(time) / 2;
+    rt.write_all(&record_length.to_le_bytes())?;
+    rt.write_all(&1u16.to_le_bytes())?;
+    rt.write_all(&arrival_time.to_le_bytes())?;
+    rt.write_all(frame)
 }
 
 fn main(rt: HostRuntime) -> io::Result<()> {
@@ -98,8 +74,8 @@ fn main(rt: HostRuntime) -> io::Result<()> {
         sequence: 240,
         dbc: 100,
     };
-    for i in 0u32..64 {
-        sender = send(rt, sender, 1000 * i, (i % 16) as usize)?;
+    for i in 0..64u32 {
+        send(rt, &mut sender, 1000 * i, (i % 16) as usize)?;
     }
     Ok(())
 }

@@ -11,8 +11,7 @@ use borrow.Author.Tests.{eq-eqb, ne_eqb, lt-ltb, le-ltb}
 use lib.Dec.{ltb}
 use Rattle.wire.specs.Bits.{bits}
 use Rattle.frame.specs.declared.layout.Cip.{Cip}
-use Rattle.source_packet.specs.declared.Start.{Start}
-use Rattle.source_packet.specs.declared.Start.TheVariants.{Nowhere, Block}
+use Rattle.std.specs.Prelude.{Option, None, Some}
 use Rattle.source_packet.specs.Blocks.{blocks_in, count_of, is_start, start_from, first_start, Earliest, IsFirstStart}
 
 -- ---- the formula, over a number p of counts that divides 256 and whose multiples are the starts
@@ -56,7 +55,7 @@ wide c h =
 -- ---- the search
 
 module _ (c : Cip) (r : ℕ) (next : Earliest c r) where
-  found : (n i : ℕ) → i ≤ r → start_from c i n ≡ cond (ltb r (i + n)) (Block r) Nowhere
+  found : (n i : ℕ) → i ≤ r → start_from c i n ≡ cond (ltb r (i + n)) (Some r) None
   unfolding start_from
   found zero i h = rw (le-ltb r (i + 0) (omega (arith, h)))
   found (suc n) i h =
@@ -69,14 +68,14 @@ module _ (c : Cip) (r : ℕ) (next : Earliest c r) where
 
   -- r is the answer where there are more than r blocks, and else there is none
   module _ (payload : List ℕ) where
-    pub in_frame : r < blocks_in c payload → (Block r ≡ first_start c payload) × IsFirstStart c payload (Block r)
+    pub in_frame : r < blocks_in c payload → (Some r ≡ first_start c payload) × IsFirstStart c payload (Some r)
     unfolding first_start
     in_frame h = (rw (found (blocks_in c payload) 0 (omega arith), lt-ltb r (0 + blocks_in c payload) (omega (arith, h))), (h, next))
 
-    pub past_frame : blocks_in c payload ≤ r → (Nowhere ≡ first_start c payload) × IsFirstStart c payload Nowhere
+    pub past_frame : blocks_in c payload ≤ r → (None ≡ first_start c payload) × IsFirstStart c payload None
     unfolding first_start
     past_frame h = (rw (found (blocks_in c payload) 0 (omega arith), le-ltb r (0 + blocks_in c payload) (omega (arith, h))), λ i k. next.first i (omega (arith, h, k)))
 
 -- what is answered as a block is in the frame
-pub first_in : (c : Cip) (payload : List ℕ) {i : ℕ} {s : Start} → s ≡ Block i → IsFirstStart c payload s → i < blocks_in c payload
-first_in c payload e h = (subst (λ (t : Start). IsFirstStart c payload t) e h).0
+pub first_in : (c : Cip) (payload : List ℕ) {i : ℕ} {s : Option ℕ} → s ≡ Some i → IsFirstStart c payload s → i < blocks_in c payload
+first_in c payload e h = (subst (λ (t : Option ℕ). IsFirstStart c payload t) e h).0

@@ -1,12 +1,10 @@
 -- The blocks of a frame by their counts, and which of them open a source packet (request #102; IEC 61883-1).
-use Rattle.std.specs.Prelude.{ℕ, zero, suc, ◌+◌, ◌*◌, ◌%◌, ◌<◌, ◌≡◌, Bool, true, false, cond, List, eqb}
+use Rattle.std.specs.Prelude.{ℕ, zero, suc, ◌+◌, ◌*◌, ◌%◌, ◌<◌, ◌≡◌, Bool, true, false, cond, List, eqb, Option, None, Some}
 use Rattle.wire.specs.Bits.{bits}
 use Rattle.wire.specs.Numbers.{part}
 use Rattle.frame.specs.declared.layout.Cip.{Cip}
 use Rattle.frame.specs.Checks.{block_bytes}
 use Rattle.frame.specs.Reading.{blocks_of}
-use Rattle.source_packet.specs.declared.Start.{Start}
-use Rattle.source_packet.specs.declared.Start.TheVariants.{Nowhere, Block}
 
 -- ---- the blocks, counted from 0
 
@@ -29,13 +27,13 @@ count_of c i = (c.dbc + i) % 256
 unfoldable pub is_start : Cip → ℕ → Bool
 is_start c i = eqb (bits 0 c.fraction_number (count_of c i)) 0
 
--- the first of the n blocks from block i on that is such a block, nowhere if none is
-unfoldable pub start_from : Cip → ℕ → ℕ → Start
-start_from c i zero = Nowhere
-start_from c i (suc n) = cond (is_start c i) (Block i) (start_from c (suc i) n)
+-- the first of the n blocks from block i on that is such a block, none if none is
+unfoldable pub start_from : Cip → ℕ → ℕ → Option ℕ
+start_from c i zero = None
+start_from c i (suc n) = cond (is_start c i) (Some i) (start_from c (suc i) n)
 
 -- "the first such block in the frame"
-unfoldable pub first_start : Cip → List ℕ → Start
+unfoldable pub first_start : Cip → List ℕ → Option ℕ
 first_start c payload = start_from c 0 (blocks_in c payload)
 
 -- ---- what is meant by the first
@@ -45,7 +43,7 @@ pub record Earliest (c : Cip) (i : ℕ) : Type 0 where
   pub start : is_start c i ≡ true
   pub first : (j : ℕ) → j < i → is_start c j ≡ false
 
--- nowhere, where no block of the frame is a start; else one of its blocks, and the earliest
-abbrev pub IsFirstStart : Cip → List ℕ → Start → Type 0
-IsFirstStart c payload Nowhere = (i : ℕ) → i < blocks_in c payload → is_start c i ≡ false
-IsFirstStart c payload (Block i) = (i < blocks_in c payload) × Earliest c i
+-- none, where no block of the frame is a start; else one of its blocks, and the earliest
+abbrev pub IsFirstStart : Cip → List ℕ → Option ℕ → Type 0
+IsFirstStart c payload None = (i : ℕ) → i < blocks_in c payload → is_start c i ≡ false
+IsFirstStart c payload (Some i) = (i < blocks_in c payload) × Earliest c i

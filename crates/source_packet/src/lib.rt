@@ -6,13 +6,6 @@ ghost use Rattle.source_packet.specs.Blocks.{Earliest, IsFirstStart, first_start
 
 use frame::layout::Cip;
 
-// Where in a frame the first block stands that opens a source packet: nowhere, or at this block, counted from 0.
-#[derive(Clone, Copy)]
-pub enum Start {
-    Nowhere,
-    Block(usize),
-}
-
 // How many blocks come before the first that opens a source packet, in a frame that goes on for long enough.
 fn blocks_before_start(cip: Cip) -> usize
     ensures earliest { Earliest cip result }
@@ -27,8 +20,8 @@ fn blocks_before_start(cip: Cip) -> usize
     left % (1usize << fraction_number)
 }
 
-// The first block of a payload that opens a source packet. SPH is not asked.
-pub fn first_start(cip: Cip, payload: &[u8]) -> Start
+// The first block of a payload that opens a source packet, counted from 0; none where no block does. SPH is not asked.
+pub fn first_start(cip: Cip, payload: &[u8]) -> Option<usize>
     ensures value { result ≡ first_start cip payload.now }
     ensures first_start { IsFirstStart cip payload.now result }
 {
@@ -36,7 +29,7 @@ pub fn first_start(cip: Cip, payload: &[u8]) -> Start
     // Where the block ends. To count the blocks of the payload instead would take a division.
     let end = (before + 1) * frame::checks::block_bytes(cip.dbs);
     if payload.len() < end {
-        return Start::Nowhere;
+        return None;
     }
-    Start::Block(before)
+    Some(before)
 }

@@ -1,8 +1,9 @@
 -- What a received frame is answered, and what it leaves of the record, as functions of the record, the frame's bytes and L alone
 -- (document 01, Lists of arrivals).
-use Rattle.std.specs.Prelude.{ℕ, ◌≡◌, false, List, [], pos, replicate}
+use Rattle.std.specs.Prelude.{ℕ, ◌≡◌, false, List, [], pos, replicate, Result, Ok, Err}
 use Rattle.frame.specs.declared.layout.Fields.{Fields}
 use Rattle.frame.specs.Layout.{payload_start, fields_of, cip_in}
+use Rattle.refusal.specs.declared.Refusal.{Refusal}
 use Rattle.refusal.specs.Refusals.{number_of}
 use Rattle.frame.specs.Reading.{no_fields, payload_of, data_of, DataThere}
 use Rattle.presentation.specs.declared.Timing.{Timing}
@@ -10,8 +11,7 @@ use Rattle.presentation.specs.declared.Kind.TheVariants.{None}
 use Rattle.stream.specs.declared.Record.{Record}
 use Rattle.stream.specs.declared.Flags.{Flags}
 use Rattle.stream.specs.declared.Stepped.{Stepped}
-use Rattle.stream.specs.declared.Receipt.{Receipt}
-use Rattle.stream.specs.declared.Receipt.TheVariants.{Accepted, Refused}
+use Rattle.stream.specs.declared.Judged.{Judged}
 use Rattle.stream.specs.Records.{unused}
 use Rattle.stream.specs.Step.{stepped}
 
@@ -62,8 +62,8 @@ id_of frame = (fields_of frame).header.stream.id
 
 -- what each case of a receipt says of the frame for which it is given: its payload is the part of the frame that the receipt's own tag and
 -- stream_data_length leave to it, and empty where the frame is refused
-abbrev pub receipt_answer : Receipt → List ℕ → Answer
-receipt_answer (Accepted j) frame =
+abbrev pub receipt_answer : Result Judged Refusal → List ℕ → Answer
+receipt_answer (Ok j) frame =
     record {
       number = 0;
       fields = j.fields;
@@ -71,17 +71,17 @@ receipt_answer (Accepted j) frame =
       flags = j.flags;
       timing = j.timing;
     }
-receipt_answer (Refused r) frame = refused_with (number_of r)
+receipt_answer (Err r) frame = refused_with (number_of r)
 
 -- where that part starts
-abbrev pub start_in : Receipt → ℕ
-start_in (Accepted j) = payload_start (cip_in j.fields)
-start_in (Refused r) = 0
+abbrev pub start_in : Result Judged Refusal → ℕ
+start_in (Ok j) = payload_start (cip_in j.fields)
+start_in (Err r) = 0
 
 -- the frame has that part
-abbrev pub PayloadThere : Receipt → List ℕ → Type 0
-PayloadThere (Accepted j) frame = DataThere frame j.fields.header.stream.tag j.fields.header.stream.data_length
-PayloadThere (Refused r) frame = ⊥
+abbrev pub PayloadThere : Result Judged Refusal → List ℕ → Type 0
+PayloadThere (Ok j) frame = DataThere frame j.fields.header.stream.tag j.fields.header.stream.data_length
+PayloadThere (Err r) frame = ⊥
 
 -- a refused answer says nothing: its parts are those of a step that an unused record takes for fifty zero bytes, with no payload
 abbrev pub RefusedAnswer : Type 0

@@ -1,5 +1,4 @@
 pub mod Records
-pub mod Private
 pub mod Step
 pub mod Answers
 pub mod Examples

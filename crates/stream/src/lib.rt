@@ -4,8 +4,7 @@
 
 ghost use Rattle.std.specs.Prelude.{◌≡◌, ◌&&◌};
 ghost use Rattle.wire.specs.Parts.{StandsIn};
-ghost use Rattle.stream.specs.Records.{unused, admitted_within, ZeroRecords, format_of, format_change, sequence_break, kept_format, flags_of, next_dbc, bump, counts_after};
-ghost use Rattle.stream.specs.Private.{kept_after, Updated};
+ghost use Rattle.stream.specs.Records.{unused, admitted_within, ZeroRecords, format_of, sequence_break, flags_of, next_dbc, bump, counts_after, record_after};
 ghost use Rattle.stream.specs.Step.{stepped};
 ghost use Rattle.stream.specs.Answers.{receipt_answer, start_in, PayloadThere, RefusedAnswer};
 ghost use Rattle.stream.specs.Examples.{MarkedExamples};
@@ -16,7 +15,7 @@ use refusal::Refusal;
 use tally::Tally;
 
 // The four format fields of a CIP header.
-#[derive(Clone, Copy)]
+#[derive(Clone, Copy, Debug, Default, PartialEq, Eq)]
 pub struct Format {
     pub fmt: u8,
     pub dbs: u8,
@@ -24,16 +23,22 @@ pub struct Format {
     pub sph: bool,
 }
 
-// What a record keeps of CIP headers: those three of its fields.
-#[derive(Clone, Copy)]
-struct Kept {
-    next_dbc: u8,
-    dbc_expected: bool,
-    format: Format,
+impl From<Cip> for Format {
+    ghost from_gives = { λ cip format. format ≡ format_of cip };
+
+    #[tactic(auto, unfolding(crate::specs::Records::format_of))]
+    fn from(cip: Cip) -> Format {
+        Format {
+            fmt: cip.fmt,
+            dbs: cip.dbs,
+            fraction_number: cip.fraction_number,
+            sph: cip.sph,
+        }
+    }
 }
 
 // Counts since admission. Each stays at 4,294,967,295 once there.
-#[derive(Clone, Copy)]
+#[derive(Clone, Copy, Debug, Default, PartialEq, Eq)]
 pub struct Counts {
     pub frames: u32,
     pub sequence_breaks: u32,
@@ -44,13 +49,14 @@ pub struct Counts {
 
 // A record has 136 bytes. Small fields stand side by side, but no order of the fields leaves less than 128, and with that a report took longer
 // (docs/changes/106.md).
-#[derive(Clone, Copy)]
+#[derive(Clone, Copy, Debug, Default, PartialEq, Eq)]
 pub struct Record {
     pub in_use: bool,
     // a frame has been accepted since admission
     pub seen: bool,
     pub sequence: u8,
-    // the block count that the next frame with a CIP header should have, where one is expected
+    // the block count that the next frame with a CIP header should have, where one is expected (`dbc_expected`). Not an Option:
+    // `ZeroRecords` and `marked_examples` name both fields, and a record that is lent may hold any pair
     pub next_dbc: u8,
     // those of the last frame with a CIP header
     pub format: Format,
@@ -67,7 +73,7 @@ pub struct Record {
     pub tally: Tally,
 }
 
-#[derive(Clone, Copy)]
+#[derive(Clone, Copy, Debug, Default, PartialEq, Eq)]
 pub struct Flags {
     pub sequence: bool,
     pub block: bool,
@@ -90,41 +96,11 @@ pub struct Judged {
     pub timing: Timing,
 }
 
-#[derive(Clone, Copy)]
-pub enum Receipt {
-    Accepted(Judged),
-    Refused(Refusal),
-}
-
-#[tactic(auto, unfolding(crate::specs::Records::unused))]
+#[tactic(auto, unfolding(crate::specs::Records::unused, tally::specs::Tally::no_tally))]
 pub fn unused() -> Record
     ensures { result ≡ unused }
 {
-    Record {
-        in_use: false,
-        seen: false,
-        id: 0,
-        sequence: 0,
-        next_dbc: 0,
-        mr: false,
-        tag: 0,
-        dbc_expected: false,
-        limit: 0,
-        format: Format {
-            fmt: 0,
-            dbs: 0,
-            fraction_number: 0,
-            sph: false,
-        },
-        counts: Counts {
-            frames: 0,
-            sequence_breaks: 0,
-            block_breaks: 0,
-            format_changes: 0,
-            mr_changes: 0,
-        },
-        tally: tally::none_yet(),
-    }
+    Record::default()
 }
 
 // A stream newly admitted: its id and its limit, nothing seen, zero in every other field and count. Any limit may be given: one above
@@ -133,100 +109,25 @@ pub fn unused() -> Record
 pub fn admitted_within(id: u64, limit: u32) -> Record
     ensures { result ≡ admitted_within id limit }
 {
-    let mut record = unused();
-    record.in_use = true;
-    record.id = id;
-    record.limit = limit;
-    record
-}
-
-#[tactic(auto, unfolding(crate::specs::Records::format_of))]
-fn format_of(cip: Cip) -> Format
-    ensures { result ≡ format_of cip }
-{
-    Format {
-        fmt: cip.fmt,
-        dbs: cip.dbs,
-        fraction_number: cip.fraction_number,
-        sph: cip.sph,
+    Record {
+        in_use: true,
+        id,
+        limit,
+        ..unused()
     }
-}
-
-#[tactic(auto, unfolding(crate::specs::Records::format_change))]
-fn format_change(last: Format, format: Format) -> bool
-    ensures { result ≡ format_change last format }
-{
-    (format.fmt != last.fmt)
-        | (format.dbs != last.dbs)
-        | (format.fraction_number != last.fraction_number)
-        | (format.sph != last.sph)
 }
 
 fn sequence_break(last: u8, sequence: u8) -> bool
     ensures { result ≡ sequence_break last sequence }
 {
-    sequence as u16 != (last as u16 + 1) % 256
+    sequence != last.wrapping_add(1)
 }
 
 // The block count that follows a frame.
 fn next_dbc(dbc: u8, blocks: usize) -> u8
     ensures { result ≡ next_dbc dbc blocks }
 {
-    ((dbc as usize + blocks % 256) % 256) as u8
-}
-
-// Is a block count expected? None is before the first frame, whatever a record that is lent says.
-fn expects_count(last: Record) -> bool
-    ensures { result ≡ (last.seen && last.dbc_expected) }
-{
-    last.seen & last.dbc_expected
-}
-
-// What is kept of a frame's CIP header; a frame that has none leaves what is kept.
-#[tactic(auto, unfolding(crate::specs::Private::kept_after, crate::specs::Records::kept_dbc, crate::specs::Records::dbc_expected, crate::specs::Records::kept_format, frame::specs::Reading::blocks_with))]
-fn keep(last: Record, fields: Fields, payload: &[u8]) -> Kept
-    ensures { result ≡ kept_after last fields payload.now }
-{
-    let cip = fields.cip;
-    let tag = fields.header.stream.tag;
-    if tag == 1 {
-        return Kept {
-            next_dbc: next_dbc(cip.dbc, frame::blocks(tag, payload, cip.dbs)),
-            dbc_expected: true,
-            format: format_of(cip),
-        };
-    }
-    let format = last.format;
-    Kept {
-        next_dbc: last.next_dbc,
-        dbc_expected: expects_count(last),
-        format,
-    }
-}
-
-// Judged on the record as it stood, and on the format that is kept after the frame: without a CIP header that is the one from before, and
-// only the tag may differ. On the first frame after admission no flag is raised.
-fn raise_flags(last: Record, fields: Fields, kept: Format) -> Flags
-    requires { kept ≡ kept_format last fields }
-    ensures { result ≡ flags_of last fields }
-{
-    let avtp = fields.header.avtp;
-    let tag = fields.header.stream.tag;
-    let dbc = fields.cip.dbc;
-    if !last.seen {
-        return Flags {
-            sequence: false,
-            block: false,
-            format: false,
-            mr: false,
-        };
-    }
-    Flags {
-        sequence: sequence_break(last.sequence, avtp.sequence),
-        block: (tag == 1) & last.dbc_expected & (dbc != last.next_dbc),
-        format: (tag != last.tag) | format_change(last.format, kept),
-        mr: avtp.mr != last.mr,
-    }
+    dbc.wrapping_add((blocks % 256) as u8)
 }
 
 // A count, one higher where the flag is raised and there is room.
@@ -234,60 +135,91 @@ fn raise_flags(last: Record, fields: Fields, kept: Format) -> Flags
 fn bump(raised: bool, count: u32) -> u32
     ensures { result ≡ bump raised count }
 {
-    if raised {
-        if count < 4_294_967_295 {
-            return count + 1;
+    count.saturating_add(u32::from(raised))
+}
+
+impl Counts {
+    // Most frames raise no flag, and then only the frames are counted.
+    #[tactic(auto, unfolding(crate::specs::Records::counts_after, crate::specs::Records::bump))]
+    fn count(&mut self, raised: Flags)
+        ensures { self.new ≡ counts_after self.old raised }
+    {
+        self.frames = bump(true, self.frames);
+        if raised.sequence || raised.block || raised.format || raised.mr {
+            self.sequence_breaks = bump(raised.sequence, self.sequence_breaks);
+            self.block_breaks = bump(raised.block, self.block_breaks);
+            self.format_changes = bump(raised.format, self.format_changes);
+            self.mr_changes = bump(raised.mr, self.mr_changes);
         }
     }
-    count
 }
 
-// Most frames raise no flag, and then only the frames are counted.
-#[tactic(auto, unfolding(crate::specs::Records::counts_after, crate::specs::Records::bump))]
-fn count_frame(counts: Counts, raised: Flags) -> Counts
-    ensures { result ≡ counts_after counts raised }
-{
-    let mut after = counts;
-    after.frames = bump(true, counts.frames);
-    if raised.sequence || raised.block || raised.format || raised.mr {
-        after.sequence_breaks = bump(raised.sequence, counts.sequence_breaks);
-        after.block_breaks = bump(raised.block, counts.block_breaks);
-        after.format_changes = bump(raised.format, counts.format_changes);
-        after.mr_changes = bump(raised.mr, counts.mr_changes);
+impl Record {
+    // Is a block count expected? None is before the first frame, whatever a record that is lent says.
+    fn expects_count(&self) -> bool
+        ensures { result ≡ (self.now.seen && self.now.dbc_expected) }
+    {
+        self.seen && self.dbc_expected
     }
-    after
-}
 
-#[tactic(auto, unfolding(crate::specs::Records::record_after, crate::specs::Private::kept_after))]
-fn update(last: Record, fields: Fields, kept: Kept, raised: Flags, timing: Timing) -> Record
-    ensures { Updated last fields kept raised timing result }
-{
-    let avtp = fields.header.avtp;
-    let format = kept.format;
-    Record {
-        in_use: last.in_use,
-        seen: true,
-        id: last.id,
-        sequence: avtp.sequence,
-        next_dbc: kept.next_dbc,
-        mr: avtp.mr,
-        tag: fields.header.stream.tag,
-        dbc_expected: kept.dbc_expected,
-        limit: last.limit,
-        format,
-        counts: count_frame(last.counts, raised),
-        tally: tally::count(last.tally, timing),
+    // Judged on the record as it stood. Two frames without a CIP header are of one format. On the first frame after admission no flag is raised.
+    #[tactic(auto, unfolding(crate::specs::Records::flags_of, crate::specs::Records::block_flag, crate::specs::Records::format_flag, crate::specs::Records::format_change, crate::specs::Records::format_of))]
+    fn flags(&self, fields: Fields) -> Flags
+        ensures { result ≡ flags_of self.now fields }
+    {
+        let avtp = fields.header.avtp;
+        let tag = fields.header.stream.tag;
+        let cip = fields.cip;
+        if !self.seen {
+            return Flags::default();
+        }
+        Flags {
+            sequence: sequence_break(self.sequence, avtp.sequence),
+            block: (tag == 1) & self.dbc_expected & (cip.dbc != self.next_dbc),
+            format: (tag != self.tag) | (tag == 1) & (Format::from(cip) != self.format),
+            mr: avtp.mr != self.mr,
+        }
+    }
+
+    // After a frame that raised these flags and has this presentation time. A frame that has no CIP header leaves what is kept of those.
+    #[tactic(auto, unfolding(crate::specs::Records::record_after, crate::specs::Records::kept_dbc, crate::specs::Records::dbc_expected, crate::specs::Records::kept_format, frame::specs::Reading::blocks_with))]
+    fn update(&mut self, fields: Fields, payload: &[u8], raised: Flags, timing: Timing)
+        ensures { self.new ≡ record_after self.old fields payload.now raised timing }
+    {
+        let avtp = fields.header.avtp;
+        let tag = fields.header.stream.tag;
+        let cip = fields.cip;
+        self.dbc_expected = tag == 1 || self.expects_count();
+        if tag == 1 {
+            self.next_dbc = next_dbc(cip.dbc, frame::blocks(tag, payload, cip.dbs));
+            self.format = Format::from(cip);
+        }
+        self.seen = true;
+        self.sequence = avtp.sequence;
+        self.mr = avtp.mr;
+        self.tag = tag;
+        self.counts.count(raised);
+        self.tally.add(timing);
+    }
+
+    // One accepted frame, with its payload and arrival time: what is judged, and the record, where it stands, brought up to date.
+    #[tactic(auto, unfolding(crate::specs::Step::stepped))]
+    pub fn step(&mut self, fields: Fields, payload: &[u8], arrival_time: u64) -> (Flags, Timing)
+        ensures { record { after = self.new; flags = result.0; timing = result.1 } ≡ stepped self.old fields payload.now arrival_time }
+    {
+        let timing = presentation::judge_time_within(arrival_time, fields, payload, self.limit);
+        let flags = self.flags(fields);
+        self.update(fields, payload, flags, timing);
+        (flags, timing)
     }
 }
 
-// One accepted frame, with its payload and arrival time.
+// The same by value.
 pub fn step(last: Record, fields: Fields, payload: &[u8], arrival_time: u64) -> Stepped
     ensures { result ≡ stepped last fields payload.now arrival_time }
 {
-    let timing = presentation::judge_time_within(arrival_time, fields, payload, last.limit);
-    let kept = keep(last, fields, payload);
-    let flags = raise_flags(last, fields, kept.format);
-    let after = update(last, fields, kept, flags, timing);
+    let mut after = last;
+    let (flags, timing) = after.step(fields, payload, arrival_time);
     Stepped {
         after,
         flags,
@@ -297,16 +229,16 @@ pub fn step(last: Record, fields: Fields, payload: &[u8], arrival_time: u64) -> 
 
 // The payload that goes with a receipt: a part of the frame for which it was given, empty where that is refused.
 #[tactic(auto, unfolding(crate::specs::Answers::refused_with))]
-pub fn payload_of(receipt: Receipt, frame: &[u8]) -> &[u8]
+pub fn payload_of(receipt: Result<Judged, Refusal>, frame: &[u8]) -> &[u8]
     ensures result_value { result.now ≡ (receipt_answer receipt frame.now).payload }
     ensures stands_in { StandsIn frame.entry.ref_ptr (start_in receipt) result.ref_ptr (PayloadThere receipt frame.now) }
 {
     match receipt {
-        Receipt::Accepted(judged) => {
+        Ok(judged) => {
             let header = judged.fields.header;
             frame::data(frame, header.stream.tag, header.stream.data_length)
         }
-        Receipt::Refused(_) => &frame[..0],
+        Err(_) => &frame[..0],
     }
 }
 

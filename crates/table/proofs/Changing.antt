@@ -1,65 +1,97 @@
 -- What admission and removal answer, from what the searches found.
 -- Assumes nothing.
 use Prim.Native.Nat.{ℕ}
-use mathlib.Core.Path.{◌≡◌, refl}
-use mathlib.Core.Bool.{Bool, true, false}
-use lib.Dec.{ltb}
-use lib.ListN.{length, length-set}
-use Rattle.refusal.specs.Refusals.{first_of}
+use mathlib.Core.Path.{◌≡◌, refl, sym, ◌∙◌}
+use mathlib.Core.Bool.{true, false, not}
+use mathlib.Core.List.{List, [], ◌∷◌}
+use lib.Dec.{T, ltb}
+use lib.ListN.{length, set}
+use Rattle.std.specs.Prelude.{Some, None, Ok, Err, position}
+use Rattle.std.specs.Option.{is_some}
+use Rattle.refusal.specs.declared.Refusal.{Refusal}
+use Rattle.refusal.specs.declared.Refusal.TheVariants.{AlreadyAdmitted}
+use Rattle.refusal.specs.Refusals.{number_of, if_accepted, Check, ◌answers◌, first_of}
+use Rattle.refusal.proofs.First.{positive, numbered, stop, go, then}
 use Rattle.presentation.specs.Presentation.{largest_limit}
-use Rattle.table.specs.declared.Found.{Found}
-use Rattle.table.specs.declared.Found.TheVariants.{At, Nothing}
-use Rattle.table.specs.declared.Wanted.TheVariants.{Holding, Unused}
-use Rattle.table.specs.declared.Asked.{Asked}
-use Rattle.table.specs.declared.Asked.TheVariants.{Admission, Removal}
-use Rattle.table.specs.declared.Target.{Target}
-use Rattle.table.specs.declared.Target.TheVariants.{Place, Refuse}
-use Rattle.table.specs.Table.{Table, holds, any, admit, remove, change_number}
-use Rattle.table.specs.Private.{find, new_target, target_of, change_of, changed_at, Fits, rule_of}
-use Rattle.table.proofs.Searched.{found_at, found_none, found_within}
+use Rattle.stream.specs.Records.{unused, admitted_within}
+use Rattle.table.specs.Table.{Table, holds, is_unused, any, place, admit_checks, remove_checks, admit, remove, ChangedBy}
+use Rattle.table.proofs.Searched.{found_at, found_none, finds}
 
-pub changed_length : (x : Target) (t : Table) → length (changed_at x t) ≡ length t
-changed_length (Place i r) t = length-set t i r
-changed_length (Refuse c) t = refl
+-- ---- one check, and then others
+abbrev pub long : ℕ → Check
+long n = ltb 64 n answers 20
 
--- what a change of the table t at x says, where p is the number and the table that the rule says; and the place is in the table
-abbrev pub Says : Target → Table → ℕ × Table → Type 0
-Says x t p = (change_number (change_of x) ≡ p.0) × ((changed_at x t ≡ p.1) × Fits x (length t))
+abbrev over : ℕ → Check
+over limit = ltb largest_limit limit answers 24
+
+abbrev rest : List Check → List Check
+rest [] = []
+rest (c ∷ cs) = cs
+
+module _ (c : Check) (h : T (numbered (c ∷ []))) (ys : List Check) where
+  pub stopped : (r : Refusal) → number_of r ≡ first_of (c ∷ []) → number_of r ≡ first_of (c ∷ ys)
+  stopped r e = stop r (first_of (c ∷ [])) (first_of ys) e ∙ sym (then (c ∷ []) ys h)
+
+  pub passed : (y : ℕ) → 0 ≡ first_of (c ∷ []) → y ≡ first_of ys → y ≡ first_of (c ∷ ys)
+  passed y e q = go (first_of (c ∷ [])) (first_of ys) y e q ∙ sym (then (c ∷ []) ys h)
+
+-- ---- the answer and the table afterwards
+kept : (n : ℕ) (t u : Table) (r : Refusal) → number_of r ≡ n → t ≡ if_accepted n u t
+kept n t u r e = let p = positive r in rw (← e, p.1) refl
+
+module _ (limit : ℕ) (t : Table) (id : ℕ) where
+  pub admit_refused : (r : Refusal) → number_of r ≡ first_of (admit_checks limit t id) → ChangedBy (admit limit) t id (Err r) t
+  unfolding admit
+  admit_refused r e = record { number = e; table = kept _ t _ r e }
+
+  admit_made : 0 ≡ first_of (admit_checks limit t id) → ChangedBy (admit limit) t id (Ok tt) (set t (place is_unused t) (admitted_within id limit))
+  unfolding admit
+  admit_made e = record { number = e; table = rw (← e) refl }
+
+  module _ (ok : 0 ≡ first_of (long (length t) ∷ [])) where
+    pub already : is_some (position (holds id) t) ≡ true → ChangedBy (admit limit) t id (Err AlreadyAdmitted) t
+    unfolding first_of
+    already held = let h = sym (finds (holds id) t) ∙ held in admit_refused AlreadyAdmitted (passed (long (length t)) tt (rest (admit_checks limit t id)) 21 ok (rw h refl))
+
+    module _ (held : is_some (position (holds id) t) ≡ false) where
+      -- the checks that are left
+      abbrev left : List Check
+      left = over limit ∷ not (any is_unused t) answers 22 ∷ []
+
+      past_held : (y : ℕ) → y ≡ first_of left → y ≡ first_of (admit_checks limit t id)
+      unfolding first_of
+      past_held y e =
+          let h = sym (finds (holds id) t) ∙ held in
+          passed (long (length t)) tt (rest (admit_checks limit t id)) y ok (rw h e)
+
+      pub too_large : (r : Refusal) → number_of r ≡ first_of (over limit ∷ []) → ChangedBy (admit limit) t id (Err r) t
+      too_large r e = admit_refused r (past_held (number_of r) (stopped (over limit) tt (rest left) r e))
+
+      module _ (within : 0 ≡ first_of (over limit ∷ [])) where
+        pub full : position is_unused t ≡ None → (r : Refusal) → number_of r ≡ 22 → ChangedBy (admit limit) t id (Err r) t
+        unfolding first_of
+        full free r e = admit_refused r (e ∙ past_held 22 (passed (over limit) tt (rest left) 22 within (rw (found_none is_unused t free) refl)))
+
+        pub admitted_at : (i : ℕ) → position is_unused t ≡ Some i → ChangedBy (admit limit) t id (Ok tt) (set t i (admitted_within id limit))
+        unfolding first_of
+        admitted_at i free =
+            let f = found_at is_unused t free in
+            rw (← f.1) (admit_made (past_held 0 (passed (over limit) tt (rest left) 0 within (rw f.0 refl))))
 
 module _ (t : Table) (id : ℕ) where
-  abbrev Decides : Asked → Found → Found → Type 0
-  Decides k held free = Says (target_of k id (length t) held free) t (rule_of k t id)
+  pub remove_refused : (r : Refusal) → number_of r ≡ first_of (remove_checks t id) → ChangedBy remove t id (Err r) t
+  unfolding remove
+  remove_refused r e = record { number = e; table = kept _ t _ r e }
 
-  long : (k : Asked) (held free : Found) → ltb 64 (length t) ≡ true → Decides k held free
-  unfolding admit remove first_of target_of
-  long (Admission limit) held free e = rw e (refl, (refl, tt))
-  long Removal held free e = rw e (refl, (refl, tt))
+  remove_made : 0 ≡ first_of (remove_checks t id) → ChangedBy remove t id (Ok tt) (set t (place (holds id) t) unused)
+  unfolding remove
+  remove_made e = record { number = e; table = rw (← e) refl }
 
-  -- a stream that is not held yet, by whether its limit is too large
-  new : (limit : ℕ) (free : Found) → any (holds id) t ≡ false → find t Unused ≡ free → ltb 64 (length t) ≡ false → (large : Bool) → ltb largest_limit limit ≡ large
-      → Decides (Admission limit) Nothing free
-  unfolding admit first_of target_of new_target
-  new limit free absent f e true l = rw (e, absent, l) (refl, (refl, tt))
-  new limit (At i) absent f e false l =
-      let room = found_at t Unused f in
-      rw (e, absent, l, room.0, room.1) (refl, (refl, found_within t Unused f))
-  new limit Nothing absent f e false l = rw (e, absent, l, found_none t Unused f) (refl, (refl, tt))
+  module _ (ok : 0 ≡ first_of (long (length t) ∷ [])) where
+    pub nothing_there : position (holds id) t ≡ None → (r : Refusal) → number_of r ≡ 23 → ChangedBy remove t id (Err r) t
+    unfolding first_of
+    nothing_there none r e = remove_refused r (e ∙ passed (long (length t)) tt (rest (remove_checks t id)) 23 ok (rw (found_none (holds id) t none) refl))
 
-  short : (k : Asked) (held free : Found) → find t (Holding id) ≡ held → find t Unused ≡ free → ltb 64 (length t) ≡ false → Decides k held free
-  unfolding admit remove first_of target_of
-  short (Admission limit) (At j) free h f e = let there = found_at t (Holding id) h in rw (e, there.0) (refl, (refl, tt))
-  short (Admission limit) Nothing free h f e = new limit free (found_none t (Holding id) h) f e (ltb largest_limit limit) refl
-  short Removal (At i) free h f e = let there = found_at t (Holding id) h in rw (e, there.0, there.1) (refl, (refl, found_within t (Holding id) h))
-  short Removal Nothing free h f e = let absent = found_none t (Holding id) h in rw (e, absent) (refl, (refl, tt))
-
-  decides : (k : Asked) → Decides k (find t (Holding id)) (find t Unused)
-  decides k = by_length (ltb 64 (length t)) refl
-    where
-      by_length : (b : Bool) → ltb 64 (length t) ≡ b → Decides k (find t (Holding id)) (find t Unused)
-      by_length true e = long k (find t (Holding id)) (find t Unused) e
-      by_length false e = short k (find t (Holding id)) (find t Unused) refl refl e
-
-  -- from what the searches and the decision answered
-  pub decided : (k : Asked) {held free : Found} {x : Target} → held ≡ find t (Holding id) → free ≡ find t Unused → x ≡ target_of k id (length t) held free
-      → Says x t (rule_of k t id)
-  decided k h f e = rw (e, h, f) (decides k)
+    pub removed_at : (i : ℕ) → position (holds id) t ≡ Some i → ChangedBy remove t id (Ok tt) (set t i unused)
+    unfolding first_of
+    removed_at i there = let f = found_at (holds id) t there in rw (← f.1) (remove_made (passed (long (length t)) tt (rest (remove_checks t id)) 0 ok (rw f.0 refl)))

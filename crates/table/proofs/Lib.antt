@@ -1,4 +1,4 @@
 pub mod Lengths
 pub mod Searched
-pub mod Receiving
 pub mod Changing
+pub mod Receiving

@@ -8,42 +8,36 @@ use native.Mathlib.Omega.{arith}
 use lib.Dec.{ltb}
 use lib.ListN.{length, set}
 use Rattle.refusal.specs.declared.Refusal.{Refusal}
-use Rattle.refusal.specs.declared.Refusal.TheVariants.{NotAdmitted, TableTooLong}
+use Rattle.refusal.specs.declared.Refusal.TheVariants.{NotAdmitted}
 use Rattle.frame.specs.declared.layout.Fields.{Fields}
-use Rattle.frame.specs.declared.Reading.TheVariants.{Accepted, Refused}
+use Rattle.std.specs.Prelude.{Result, Ok, Err, Some, None, position}
 use Rattle.frame.specs.Layout.{fields_of}
-use Rattle.refusal.specs.Refusals.{number_of, Check, ◌answers◌, first_of}
+use Rattle.refusal.specs.Refusals.{number_of, ◌answers◌, first_of}
 use Rattle.frame.specs.Checks.{frame_checks, refusal}
 use Rattle.frame.specs.Reading.{ReadAnswer, reading_by, reading, read_answer}
 use Rattle.refusal.proofs.First.{positive, or_else, both, then}
 use Rattle.stream.specs.declared.Record.{Record}
 use Rattle.frame.proofs.Groups.{frame_numbered}
-use Rattle.table.specs.declared.Served.{Served}
-use Rattle.stream.specs.declared.Receipt.TheVariants as receipt
-use Rattle.table.specs.Private.{served}
 use Rattle.stream.specs.Answers.{answer_of, after, id_of, receipt_answer}
 use Rattle.frame.proofs.Answers.{data_payload}
 use Rattle.stream.specs.Answers.{step_of}
-use Rattle.table.specs.declared.Found.TheVariants.{At, Nothing}
-use Rattle.table.specs.declared.Wanted.TheVariants.{Holding}
 use Rattle.table.specs.Table.{Table, any, place, holds, at, number_with, receive, receive_alone, only, Receives, ReceivesAlone}
-use Rattle.table.specs.Private.{find, reading_for}
-use Rattle.table.proofs.Searched.{found_at, found_none}
+use Rattle.table.specs.Private.{reading_for, served, judged}
+use Rattle.stream.specs.declared.Judged.{Judged}
+use Rattle.table.proofs.Searched.{searched, found_at, found_none}
+use Rattle.table.proofs.Changing.{long, stopped, passed}
 
 -- ---- the number, from the reader's and the search's
-abbrev too_long : ℕ → Check
-too_long n = ltb 64 n answers 20
-
 -- before the table is searched
 abbrev pub number_before : ℕ → List ℕ → ℕ
-number_before n frame = first_of (too_long n ∷ frame_checks frame)
+number_before n frame = first_of (long n ∷ frame_checks frame)
 
 abbrev pub unadmitted : Bool → ℕ
 unadmitted found = cond (not found) 15 0
 
 pub number_then : (t : Table) (frame : List ℕ) → number_with t frame ≡ or_else (number_before (length t) frame) (unadmitted (any (holds (id_of frame)) t))
 unfolding number_with first_of
-number_then t frame = then (too_long (length t) ∷ frame_checks frame) (not (any (holds (id_of frame)) t) answers 15 ∷ []) (frame_numbered frame)
+number_then t frame = then (long (length t) ∷ frame_checks frame) (not (any (holds (id_of frame)) t) answers 15 ∷ []) (frame_numbered frame)
 
 -- an accepted frame's stream is admitted
 pub number_any : (t : Table) (frame : List ℕ) → number_with t frame ≡ 0 → any (holds (id_of frame)) t ≡ true
@@ -59,21 +53,21 @@ past_20 true n e = absurd (omega (arith, e))
 past_20 false n e = e
 
 -- ---- what the reader said
-refused_as : (n : ℕ) (frame : List ℕ) (r : Refusal) → read_answer (Refused r) ≡ reading_by n frame → n ≡ number_of r
+refused_as : (n : ℕ) (frame : List ℕ) (r : Refusal) → read_answer (Err r) ≡ reading_by n frame → n ≡ number_of r
 refused_as n frame r e = ap (λ (a : ReadAnswer). a.number) (sym e)
 
-accepted_as : (n : ℕ) (f : Fields) (frame : List ℕ) → read_answer (Accepted f) ≡ reading_by n frame → (n ≡ 0) × (f ≡ fields_of frame)
+accepted_as : (n : ℕ) (f : Fields) (frame : List ℕ) → read_answer (Ok f) ≡ reading_by n frame → (n ≡ 0) × (f ≡ fields_of frame)
 accepted_as zero f frame e = (refl, ap (λ (a : ReadAnswer). a.fields) e)
 accepted_as (suc n) f frame e = let same : 0 ≡ suc n = ap (λ (a : ReadAnswer). a.number) e in absurd (omega (arith, same))
 
 -- `read_for`: past 64 records, and up to them
-pub too_long_lem : (n : ℕ) (frame : List ℕ) → ltb 64 n ≡ true → read_answer (Refused TableTooLong) ≡ reading_for n frame
-unfolding reading_for first_of
-too_long_lem n frame e = rw e
+pub too_long_reading : (n : ℕ) (frame : List ℕ) (r : Refusal) → number_of r ≡ first_of (long n ∷ []) → read_answer (Err r) ≡ reading_for n frame
+unfolding reading_for
+too_long_reading n frame r e = let p = positive r in rw (← stopped (long n) tt (frame_checks frame) r e, p.1) refl
 
-pub short_enough : (n : ℕ) (frame : List ℕ) → ltb 64 n ≡ false → reading frame ≡ reading_for n frame
-unfolding reading_for first_of reading refusal
-short_enough n frame e = rw e
+pub short_enough : (n : ℕ) (frame : List ℕ) → 0 ≡ first_of (long n ∷ []) → reading frame ≡ reading_for n frame
+unfolding reading_for reading refusal
+short_enough n frame e = ap (λ (m : ℕ). reading_by m frame) (passed (long n) tt (frame_checks frame) (first_of (frame_checks frame)) e refl)
 
 -- an accepted frame that was read is served by the step of its bytes
 module _ (r : Record) (frame : List ℕ) (L : ℕ) (accepted : refusal frame ≡ 0) where
@@ -81,13 +75,13 @@ module _ (r : Record) (frame : List ℕ) (L : ℕ) (accepted : refusal frame ≡
   unfolding served after step_of
   served_after = rw (data_payload frame accepted)
 
-  served_answer : receipt_answer (served r (fields_of frame) frame L).receipt frame ≡ answer_of r frame L
+  served_answer : receipt_answer (Ok (judged (fields_of frame) (served r (fields_of frame) frame L))) frame ≡ answer_of r frame L
   unfolding served answer_of step_of
   served_answer = rw (data_payload frame accepted)
 
 -- ---- the answer and the table afterwards
 module _ (t : Table) (frame : List ℕ) (L : ℕ) where
-  refuses : (r : Refusal) → number_with t frame ≡ number_of r → Receives t frame L (receipt.Refused r) t
+  refuses : (r : Refusal) → number_with t frame ≡ number_of r → Receives t frame L (Err r) t
   unfolding receive
   refuses r e = let p = positive r in record { answer = rw (e, p.1); table = rw (e, p.1) }
 
@@ -95,12 +89,12 @@ module _ (t : Table) (frame : List ℕ) (L : ℕ) where
   unfolding receive
   accepts e i p = (rw (e, p), rw (e, p))
 
-  pub receives_refused : (r : Refusal) → read_answer (Refused r) ≡ reading_for (length t) frame → Receives t frame L (receipt.Refused r) t
+  pub receives_refused : (r : Refusal) → read_answer (Err r) ≡ reading_for (length t) frame → Receives t frame L (Err r) t
   unfolding reading_for or_else
   receives_refused r e = let p = positive r in refuses r (rw (number_then t frame, refused_as (number_before (length t) frame) frame r e, p.1))
 
   -- past the reader the search for the frame's stream decides
-  module _ (f : Fields) (e : read_answer (Accepted f) ≡ reading_for (length t) frame) where
+  module _ (f : Fields) (e : read_answer (Ok f) ≡ reading_for (length t) frame) where
     abbrev id : ℕ
     id = f.header.stream.id
 
@@ -116,41 +110,43 @@ module _ (t : Table) (frame : List ℕ) (L : ℕ) where
     unfolding or_else
     decided b h = rw (number_then t frame, accepted.0, ← same_id, h)
 
-    pub receives_unadmitted : find t (Holding id) ≡ Nothing → Receives t frame L (receipt.Refused NotAdmitted) t
-    receives_unadmitted none = refuses NotAdmitted (decided false (found_none t (Holding id) none))
+    pub receives_unadmitted : position (holds id) t ≡ None → (r : Refusal) → number_of r ≡ 15 → Receives t frame L (Err r) t
+    receives_unadmitted none r n = refuses r (decided false (found_none (holds id) t none) ∙ sym n)
 
-    pub receives_served : (i : ℕ) → find t (Holding id) ≡ At i → Receives t frame L (served (at t i) f frame L).receipt (set t i (served (at t i) f frame L).after)
+    pub receives_served : (i : ℕ) → position (holds id) t ≡ Some i
+        → Receives t frame L (Ok (judged f (served (at t i) f frame L))) (set t i (served (at t i) f frame L).after)
     unfolding first_of refusal
     receives_served i h =
-        let found = found_at t (Holding id) h in
+        let found = found_at (holds id) t h in
         let there : place (holds (id_of frame)) t ≡ i = rw (← same_id) found.1 in
         let by_number = accepts (decided true found.0) i there in
         let read : refusal frame ≡ 0 = past_20 (ltb 64 (length t)) (refusal frame) accepted.0 in
         record {
-          answer = ap (λ (g : Fields). receipt_answer (served (at t i) g frame L).receipt frame) accepted.1 ∙ served_answer (at t i) frame L read ∙ by_number.0;
+          answer = ap (λ (g : Fields). receipt_answer (Ok (judged g (served (at t i) g frame L))) frame) accepted.1 ∙ served_answer (at t i) frame L read ∙ by_number.0;
           table = ap (λ (g : Fields). set t i (served (at t i) g frame L).after) accepted.1 ∙ ap (set t i) (served_after (at t i) frame L read) ∙ by_number.1;
         }
 
 -- ---- a record lent alone
-abbrev pub ServesAlone : Record → List ℕ → ℕ → Served → Type 0
-ServesAlone last frame L s = ReceivesAlone last frame L s.receipt s.after
-
-found_alone : (id : ℕ) (last : Record) (b : Bool) → holds id last ≡ b → find (last ∷ []) (Holding id) ≡ cond b (At 0) Nothing
-unfolding find any place
-found_alone id last true e = rw e
-found_alone id last false e = rw e
+found_alone : (id : ℕ) (last : Record) (b : Bool) → holds id last ≡ b → position (holds id) (last ∷ []) ≡ cond b (Some 0) None
+unfolding any place
+found_alone id last true e = searched (holds id) (last ∷ []) ∙ rw e refl
+found_alone id last false e = searched (holds id) (last ∷ []) ∙ rw e refl
 
 module _ (last : Record) (frame : List ℕ) (L : ℕ) where
-  alone : (s : Served) → Receives (last ∷ []) frame L s.receipt (s.after ∷ []) → ServesAlone last frame L s
+  alone : (q : Result Judged Refusal) (r : Record) → Receives (last ∷ []) frame L q (r ∷ []) → ReceivesAlone last frame L q r
   unfolding receive_alone
-  alone s h = record { answer = h.answer; lent = ap only h.table }
+  alone q r h = record { answer = h.answer; lent = ap only h.table }
 
-  pub alone_refused : (r : Refusal) → read_answer (Refused r) ≡ reading_for 1 frame → ServesAlone last frame L (record { after = last; receipt = receipt.Refused r })
-  alone_refused r e = alone (record { after = last; receipt = receipt.Refused r }) (receives_refused (last ∷ []) frame L r e)
+  pub alone_refused : (r : Refusal) → read_answer (Err r) ≡ reading_for 1 frame → ReceivesAlone last frame L (Err r) last
+  alone_refused r e = alone (Err r) last (receives_refused (last ∷ []) frame L r e)
 
-  module _ (f : Fields) (e : read_answer (Accepted f) ≡ reading_for 1 frame) where
-    pub alone_unadmitted : holds f.header.stream.id last ≡ false → ServesAlone last frame L (record { after = last; receipt = receipt.Refused NotAdmitted })
-    alone_unadmitted h = alone (record { after = last; receipt = receipt.Refused NotAdmitted }) (receives_unadmitted (last ∷ []) frame L f e (found_alone f.header.stream.id last false h))
+  module _ (f : Fields) (e : read_answer (Ok f) ≡ reading_for 1 frame) where
+    pub alone_unadmitted : holds f.header.stream.id last ≡ false → ReceivesAlone last frame L (Err NotAdmitted) last
+    alone_unadmitted h =
+        alone (Err NotAdmitted) last (receives_unadmitted (last ∷ []) frame L f e (found_alone f.header.stream.id last false h) NotAdmitted refl)
 
-    pub alone_served : holds f.header.stream.id last ≡ true → ServesAlone last frame L (served last f frame L)
-    alone_served h = alone (served last f frame L) (receives_served (last ∷ []) frame L f e 0 (found_alone f.header.stream.id last true h))
+    pub alone_served : holds f.header.stream.id last ≡ true
+        → ReceivesAlone last frame L (Ok (judged f (served last f frame L))) (served last f frame L).after
+    alone_served h =
+        alone (Ok (judged f (served last f frame L))) (served last f frame L).after
+        (receives_served (last ∷ []) frame L f e 0 (found_alone f.header.stream.id last true h))

@@ -1,14 +1,13 @@
 -- Tables of stream records: admission, removal and receiving (document 01, Stream records and Numbers answered; request #107).
-use Rattle.std.specs.Prelude.{ℕ, suc, ◌≡◌, Bool, false, not, cond, ◌&&◌, ◌||◌, List, [], ◌∷◌, ◌++◌, eqb, ltb, length, get_or, set}
-use Rattle.refusal.specs.Refusals.{number_of, if_accepted, Check, ◌answers◌, first_of}
+use Rattle.std.specs.Prelude.{ℕ, suc, ◌≡◌, Bool, false, not, cond, ◌&&◌, ◌||◌, List, [], ◌∷◌, ◌++◌, eqb, ltb, length, get_or, set, Result}
+use Rattle.refusal.specs.declared.Refusal.{Refusal}
+use Rattle.refusal.specs.Refusals.{verdict_number, if_accepted, Check, ◌answers◌, first_of}
 use Rattle.frame.specs.Checks.{frame_checks}
 use Rattle.stream.specs.declared.Record.{Record}
 use Rattle.presentation.specs.Presentation.{largest_limit}
 use Rattle.stream.specs.Records.{unused, admitted_within}
-use Rattle.stream.specs.declared.Receipt.{Receipt}
+use Rattle.stream.specs.declared.Judged.{Judged}
 use Rattle.stream.specs.Answers.{Answer, refused_with, answer_of, after, id_of, receipt_answer}
-use Rattle.table.specs.declared.Change.{Change}
-use Rattle.table.specs.declared.Change.TheVariants.{Made, Refused}
 
 abbrev pub Table : Type 0
 Table = List Record
@@ -65,13 +64,12 @@ remove t id =
     let n = first_of (remove_checks t id) in
     (n, if_accepted n (set t (place (holds id) t) unused) t)
 
--- what each case of an answer says
-abbrev pub change_number : Change → ℕ
-change_number Made = 0
-change_number (Refused r) = number_of r
+-- the number of what a change answers
+abbrev pub change_number : Result (Unit {0}) Refusal → ℕ
+change_number c = verdict_number c
 
 -- what a call answers and leaves: c is the answer, t' the table afterwards, by the rule of admission or of removal
-pub record ChangedBy (rule : Table → ℕ → ℕ × Table) (t : Table) (id : ℕ) (c : Change) (t' : Table) : Type 0 where
+pub record ChangedBy (rule : Table → ℕ → ℕ × Table) (t : Table) (id : ℕ) (c : Result (Unit {0}) Refusal) (t' : Table) : Type 0 where
   pub number : change_number c ≡ (rule t id).0
   pub table : t' ≡ (rule t id).1
 
@@ -97,7 +95,7 @@ receive t frame L =
     (if_accepted n (answer_of (at t i) frame L) (refused_with n), if_accepted n (set t i (after (at t i) frame L)) t)
 
 -- what a call answers and leaves: r is the receipt, t' the table afterwards
-pub record Receives (t : Table) (frame : List ℕ) (L : ℕ) (r : Receipt) (t' : Table) : Type 0 where
+pub record Receives (t : Table) (frame : List ℕ) (L : ℕ) (r : Result Judged Refusal) (t' : Table) : Type 0 where
   pub answer : receipt_answer r frame ≡ (receive t frame L).0
   pub table : t' ≡ (receive t frame L).1
 
@@ -110,6 +108,6 @@ unfoldable pub receive_alone : Record → List ℕ → ℕ → Answer × Record
 receive_alone r frame L = ((receive (r ∷ []) frame L).0, only (receive (r ∷ []) frame L).1)
 
 -- what a call answers and leaves: q is the receipt, r' the record afterwards
-pub record ReceivesAlone (r : Record) (frame : List ℕ) (L : ℕ) (q : Receipt) (r' : Record) : Type 0 where
+pub record ReceivesAlone (r : Record) (frame : List ℕ) (L : ℕ) (q : Result Judged Refusal) (r' : Record) : Type 0 where
   pub answer : receipt_answer q frame ≡ (receive_alone r frame L).0
   pub lent : r' ≡ (receive_alone r frame L).1

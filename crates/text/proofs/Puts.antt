@@ -1,5 +1,6 @@
 -- What a call leaves, by whether there is room, and one text after another. Assumes nothing.
-use Prim.Native.Nat.{ℕ, ◌+◌, ◌≤◌, ◌<◌}
+use Prim.Native.Nat.{ℕ, ◌+◌, ◌-◌, ◌^◌, ◌≤◌, ◌<◌}
+use Rattle.std.specs.Prelude.{min}
 use mathlib.Core.Path.{◌≡◌, refl, sym, ap, ◌∙◌}
 use mathlib.Core.Bool.{Bool, true, false}
 use mathlib.Core.List.{List, [], ◌++◌}
@@ -55,6 +56,10 @@ module _ {r : Bool} (n len : ℕ) (asked : r ≡ leb n len) where
   pub lacks_room : r ≡ false → len < n
   lacks_room e = leb-false n len (sym asked ∙ e)
 
+-- what `saturating_add` answers
+saturating : (n : ℕ) → min n (2 ^ 64 - 1) ≡ saturated n
+saturating n = by_cap n (λ h e. sym (e ∙ omega arith)) (λ h e. sym (e ∙ omega arith))
+
 module _ {d d' text : List ℕ} {at r : ℕ} where
   pub put_there : length d ≤ largest → at + length text ≤ length d → d' ≡ sets d at text → r ≡ at + length text → Put d at text d' r
   unfolding place_after put_at
@@ -65,13 +70,13 @@ module _ {d d' text : List ℕ} {at r : ℕ} where
         room = λ _. p;
       }
 
-  pub not_put : length d < largest → length d < at + length text → d' ≡ d → r ≡ saturated (at + length text) → Put d at text d' r
+  pub not_put : length d < largest → length d < at + length text → d' ≡ d → r ≡ min (at + length text) (2 ^ 64 - 1) → Put d at text d' r
   unfolding place_after put_at
   not_put l h e p =
       record {
-        place = p;
+        place = p ∙ saturating (at + length text);
         buffer = rw (lt-leb (at + length text) (length d) h) e;
-        room = λ g. absurd (omega (arith, saturated_above (length d) (at + length text) h l));
+        room = λ g. absurd (omega arith);
       }
 
 -- ---- One text after another

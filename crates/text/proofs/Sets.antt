@@ -1,11 +1,14 @@
 -- Text stored in a buffer: one text after another, in any order. Assumes nothing.
-use Prim.Native.Nat.{ℕ, suc, ◌+◌, ◌≤◌, ◌<◌}
+use Prim.Native.Nat.{ℕ, suc, ◌+◌, ◌-◌, ◌≤◌, ◌<◌}
 use mathlib.Core.Path.{◌≡◌, refl, sym, ap, ◌∙◌}
-use mathlib.Core.List.{List, [], ◌∷◌, ◌++◌}
+use mathlib.Core.List.{List, [], ◌∷◌, ◌++◌, append_assoc}
 use native.Mathlib.Nat.{add-zero, add-suc, suc-add}
 use native.Mathlib.Numerals.{add-one}
 use native.Mathlib.Omega.{arith}
-use lib.ListN.{length, take, get_or, set}
+use lib.ListN.{length, take, drop, get_or, set}
+use borrow.Rule.Slice.PartMut.{put_mid}
+use Rattle.std.proofs.lemmas.Slice.{put_mid-paste}
+use Rattle.std.proofs.lemmas.List.Edits.{paste_all, sets-eq}
 use lib.Seq.{sets, take-suc, set-set, set_comm, length-take-le}
 
 pub sets_append : (s t d : List ℕ) (i : ℕ) → sets d i (s ++ t) ≡ sets (sets d i s) (i + length s) t
@@ -39,6 +42,11 @@ pub sets_more : (d : List ℕ) (i : ℕ) (s : List ℕ) (j : ℕ) → j < length
 sets_more d i s j h =
     let l : length (take j s) ≡ j = length-take-le j s (omega arith) in
     sym (rw (add-one, take-suc s j 0, sets_append, l))
+
+-- a part of a buffer that a text is copied to
+pub part_set : (d text part : List ℕ) (at end : ℕ) → part ≡ text → at + length text ≡ end → end ≤ length d → put_mid at (end - at) d part ≡ sets d at text
+part_set d text part at end e n h =
+    put_mid-paste at (end - at) d part text (length text) e (omega arith) refl ∙ paste_all d at text (length text) refl ∙ sym (append_assoc (take at d) text (drop (at + length text) d)) ∙ sym (sets-eq text d at (omega arith))
 
 apart : (s t d : List ℕ) (i j : ℕ) → i + length s ≤ j → sets (sets d j t) i s ≡ sets (sets d i s) j t
 apart [] t d i j h = refl

@@ -2,40 +2,26 @@
 // and where it is past the buffer's end the buffer is as it was. A place that no number of 64 bits holds is answered as the largest.
 #![tactic(auto)]
 
-ghost use Rattle.std.specs.Prelude.{◌≡◌, ◌+◌, ◌*◌, ◌/◌, ◌%◌, ◌≤◌, ◌<◌, [], ◌∷◌, leb, nat_abs, length};
+ghost use Rattle.std.specs.Prelude.{◌≡◌, ◌+◌, ◌*◌, ◌/◌, ◌%◌, ◌≤◌, ◌<◌, [], ◌∷◌, leb, length};
 ghost use Rattle.std.proofs.lemmas.List.Edits.{sets};
 ghost use Rattle.text.specs.Text.{decimal, signed};
-ghost use Rattle.text.specs.Putting.{saturated, Put};
+ghost use Rattle.text.specs.Putting.{Put};
 ghost use Rattle.text.specs.Private.{digit_bytes, low_bytes};
 
 // Does a buffer of `len` bytes have room for `size` of them at place `at`?
 fn has_room(len: usize, at: usize, size: usize) -> bool
     ensures { result ≡ leb (at + size) len }
 {
-    if len < size {
-        return false;
-    }
-    at <= len - size
+    len.checked_sub(size).is_some_and(|last| at <= last)
 }
 
-// The place after `size` bytes at place `at`.
-fn place_after(at: usize, size: usize) -> usize
-    ensures { result ≡ saturated (at + size) }
-{
-    if usize::MAX - size < at {
-        return usize::MAX;
-    }
-    at + size
-}
-
+// `copy_from_slice` asks whether the two overlap, which costs a put of a few bytes more than the copy.
 fn copy(out: &mut [u8], at: usize, text: &[u8])
     requires { at + length text.now ≤ length out.old }
     ensures { out.new ≡ sets out.old at text.now }
 {
-    let mut j = 0;
-    while j < text.len() {
-        out[at + j] = text[j];
-        j += 1;
+    for (j, byte) in text.iter().enumerate() {
+        out[at + j] = *byte;
     }
 }
 
@@ -43,7 +29,7 @@ pub fn put(out: &mut [u8], at: usize, text: &[u8]) -> usize
     ensures { Put out.old at text.now out.new result }
 {
     if !has_room(out.len(), at, text.len()) {
-        return place_after(at, text.len());
+        return at.saturating_add(text.len());
     }
     copy(out, at, text);
     at + text.len()
@@ -154,10 +140,7 @@ fn put_low_bytes(out: &mut [u8], at: usize, n: u64)
     requires { at + 4 ≤ length out.old }
     ensures { out.new ≡ sets out.old at (low_bytes n) }
 {
-    out[at] = (n % 256) as u8;
-    out[at + 1] = (n / 256 % 256) as u8;
-    out[at + 2] = (n / 65_536 % 256) as u8;
-    out[at + 3] = (n / 16_777_216 % 256) as u8;
+    out[at..at + 4].copy_from_slice(&((n % 4_294_967_296) as u32).to_le_bytes());
 }
 
 // The first four bytes of a text and, so many places on, its last four: they stand over what is too much of the first.
@@ -198,7 +181,7 @@ fn put_counted(out: &mut [u8], at: usize, n: u64) -> usize
 {
     let count = count_digits(n);
     if !has_room(out.len(), at, count) {
-        return place_after(at, count);
+        return at.saturating_add(count);
     }
     let end = at + count;
     put_digits(out, at, end, n);
@@ -209,24 +192,10 @@ fn put_counted(out: &mut [u8], at: usize, n: u64) -> usize
 pub fn put_decimal(out: &mut [u8], at: usize, n: u64) -> usize
     ensures { Put out.old at (decimal n) out.new result }
 {
-    if n < 100_000_000 {
-        if has_room(out.len(), at, 8) {
-            return put_up_to_eight(out, at, n);
-        }
+    if n < 100_000_000 && has_room(out.len(), at, 8) {
+        return put_up_to_eight(out, at, n);
     }
     put_counted(out, at, n)
-}
-
-// How far a number is from zero.
-fn magnitude(n: i64) -> u64
-    ensures { result ≡ nat_abs n }
-{
-    if n < 0 {
-        // one less than the magnitude, so that the lowest number fits too
-        let less = -1 - n;
-        return less as u64 + 1;
-    }
-    n as u64
 }
 
 // A minus sign and a number.
@@ -235,7 +204,7 @@ fn put_negative(out: &mut [u8], at: usize, n: u64) -> usize
 {
     let size = 1 + count_digits(n);
     if !has_room(out.len(), at, size) {
-        return place_after(at, size);
+        return at.saturating_add(size);
     }
     out[at] = b'-';
     put_decimal(out, at + 1, n)
@@ -245,7 +214,7 @@ pub fn put_signed(out: &mut [u8], at: usize, z: i64) -> usize
     ensures { Put out.old at (signed z) out.new result }
 {
     if z < 0 {
-        return put_negative(out, at, magnitude(z));
+        return put_negative(out, at, z.unsigned_abs());
     }
-    put_decimal(out, at, magnitude(z))
+    put_decimal(out, at, z.unsigned_abs())
 }

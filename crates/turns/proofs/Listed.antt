@@ -1,19 +1,18 @@
 -- All turns together: what is listed is the capture that came. Assumes nothing.
-use Prim.Native.Nat.{ℕ, ◌+◌, ◌-◌, ◌≤◌}
+use Prim.Native.Nat.{ℕ, ◌+◌, ◌-◌, ◌≤◌, min}
 use mathlib.Core.Path.{◌≡◌, refl, sym, ap, ◌∙◌, subst}
-use mathlib.Core.Bool.{Bool, true, false, false≢true, cond}
+use mathlib.Core.Bool.{Bool, true, false, false≢true}
 use mathlib.Core.List.{List, [], ◌∷◌, ◌++◌, append-nil, append_assoc}
 use native.Mathlib.Omega.{arith}
-use borrow.Author.Tests.{le-leb}
+use borrow.Author.Tests.{le-leb, leb-true, leb-false}
 use lib.Dec.{T, ltb, leb}
 use lib.ListN.{length, take, drop, take-append-drop}
-use lib.Seq.{sets, length-sets, length-take-le, drop-length}
+use lib.Seq.{sets, length-sets, length-take-le, drop-length, take_all}
 use Rattle.capture.specs.Walk.{ChunkWalk}
 use Rattle.table.specs.Table.{Table}
 use Rattle.lines.specs.Lines.{start_line, ending}
 use Rattle.lines.specs.Placing.{line_room, roomy}
 use Rattle.input.specs.Input.{between}
-use Rattle.input.proofs.Reading.{end, end_within, up_to_end}
 use Rattle.listing.specs.Listing.{Said, lines_after, number_after}
 use Rattle.listing.specs.Chunks.{chunked}
 use Rattle.listing.specs.InChunks.{LentChunk, capture_of, Run, unlisted, list_chunk, list_chunks, count_at_end, ListedAs}
@@ -177,14 +176,21 @@ one_turn_more {d₀ = d₀} room l t =
 -- ---- Whatever is asked for
 
 -- the bytes that have been read, as far as the input has them
-module _ (input : List ℕ) (have e : ℕ) (is : e ≡ cond (leb have (length input)) have (length input)) where
+module _ (input : List ℕ) (have e : ℕ) (is : e ≡ min have (length input)) where
   pub within : e ≤ length input
-  within = rw is (end_within 0 have input)
+  within = omega arith
 
   same_bytes : take e input ≡ take have input
-  same_bytes =
-      let front : (n : ℕ) → n - 0 ≡ n = λ n. omega arith in
-      ap (λ (k : ℕ). take k input) (is ∙ sym (front (end 0 have input))) ∙ up_to_end 0 have input ∙ ap (λ (k : ℕ). take k input) (front have)
+  same_bytes = go (leb have (length input)) refl
+    where
+      go : (s : Bool) → leb have (length input) ≡ s → take e input ≡ take have input
+      go true t =
+          let low = leb-true have (length input) t in
+          let same : e ≡ have = omega arith in
+          ap (λ (k : ℕ). take k input) same
+      go false t =
+          let high = leb-false have (length input) t in
+          take_all e input (omega arith) ∙ sym (take_all have input (omega arith))
 
   -- the output has no room for a line
   pub no_room : (shown : Bool) (d : List ℕ) {s : State} → roomy (length d) 0 ≡ false → s ≡ started e CannotWrite → RecordsListed shown (take have input) input d s input d

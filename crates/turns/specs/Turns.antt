@@ -24,13 +24,6 @@ stage_by Open = Going
 stage_by Ended = AllRead
 stage_by Failed = CannotRead
 
--- is there more to list?
-abbrev pub is_going : Stage → Bool
-is_going Going = true
-is_going AllRead = false
-is_going CannotRead = false
-is_going CannotWrite = false
-
 -- has all been read and listed?
 abbrev pub is_read : Stage → Bool
 is_read Going = false

@@ -1,16 +1,17 @@
 // A capture gone through as it is read: its bytes come into a buffer, and the lines of its records go out, turn by turn, where they are shown.
 #![tactic(auto)]
 
-ghost use Rattle.std.specs.Prelude.{◌≡◌, true, false, ◌≤◌, length, take};
+ghost use Rattle.std.specs.Prelude.{◌≡◌, ◌≤◌, [], length, take, IsOk};
 ghost use Rattle.lines.specs.Placing.{line_room};
-ghost use Rattle.turns.specs.Turns.{stage_by, is_going, is_read, started, InPlace, Turned, RecordsListed};
+ghost use Rattle.turns.specs.Turns.{is_read, started, InPlace, Turned, RecordsListed};
 
 use input::Source;
+use std::io;
 use std::io::{Read, Write};
 use stream::Record;
 
 // Where a listing stands.
-#[derive(Clone, Copy)]
+#[derive(Clone, Copy, PartialEq, Eq)]
 pub enum Stage {
     Going,
     AllRead,
@@ -18,6 +19,28 @@ pub enum Stage {
     CannotRead,
     // standard output takes no more, or the output has no room for a line
     CannotWrite,
+}
+
+// There is more to list, or all has been read, or it cannot be.
+impl From<Source> for Stage {
+    ghost use Rattle.turns.specs.Turns.{stage_by};
+
+    ghost from_gives = { λ source r. r ≡ stage_by source };
+
+    fn from(source: Source) -> Stage {
+        match source {
+            Source::Open => Stage::Going,
+            Source::Ended => Stage::AllRead,
+            Source::Failed => Stage::CannotRead,
+        }
+    }
+}
+
+// Has all been read?
+pub fn is_read(stage: Stage) -> bool
+    ensures { result ≡ is_read stage }
+{
+    stage == Stage::AllRead
 }
 
 // What a turn leaves: the table, the records listed, the place of the bytes that are not listed yet and their end, and the stage.
@@ -30,100 +53,14 @@ pub struct State {
     pub stage: Stage,
 }
 
-fn is_going(stage: Stage) -> bool
-    ensures { result ≡ is_going stage }
-{
-    match stage {
-        Stage::Going => true,
-        Stage::AllRead => false,
-        Stage::CannotRead => false,
-        Stage::CannotWrite => false,
-    }
-}
-
-// Has all been read?
-pub fn is_read(stage: Stage) -> bool
-    ensures { result ≡ is_read stage }
-{
-    match stage {
-        Stage::Going => false,
-        Stage::AllRead => true,
-        Stage::CannotRead => false,
-        Stage::CannotWrite => false,
-    }
-}
-
-// There is more to list, or all has been read, or it cannot be.
-fn stage_of(source: Source) -> Stage
-    ensures { result ≡ stage_by source }
-{
-    match source {
-        Source::Open => Stage::Going,
-        Source::Ended => Stage::AllRead,
-        Source::Failed => Stage::CannotRead,
-    }
-}
-
 // Lines go out, where there are any.
-fn write_lines<W: Write>(writer: &mut W, out: &[u8], end: usize) -> bool
-    requires { end ≤ length out.now }
-    ensures { end ≡ 0 → result ≡ true }
+fn write_lines<W: Write>(writer: &mut W, lines: &[u8]) -> io::Result<()>
+    ensures { lines.now ≡ [] → IsOk result }
 {
-    if end == 0 {
-        return true;
+    if lines.is_empty() {
+        return Ok(());
     }
-    writer.write_all(&out[0..end]).is_ok()
-}
-
-// Lists the whole records at the front of what has been read, and writes their lines. Where there is none, reads more.
-fn turn<R: Read, W: Write>(
-    reader: &mut R,
-    writer: &mut W,
-    input: &mut [u8],
-    out: &mut [u8],
-    s: State,
-    shown: bool,
-) -> State
-    requires { InPlace input.old s }
-    ensures { Turned shown input.old out.old s result input.new out.new }
-{
-    let from = s.from;
-    let have = s.have;
-    let before = s.table;
-    let listed = listing::chunk::list_chunk_in(before, &input[from..have], out, s.records, shown);
-    let table = listed.table;
-    let progress = listed.progress;
-    let put = progress.put;
-    let records = progress.records;
-    let used = progress.at;
-    let next = from + used;
-    if !write_lines(writer, out, put) {
-        return State {
-            table,
-            records,
-            from: next,
-            have,
-            stage: Stage::CannotWrite,
-        };
-    }
-    if used > 0 {
-        return State {
-            table,
-            records,
-            from: next,
-            have,
-            stage: Stage::Going,
-        };
-    }
-    let filled = input::refill(reader, input, from, have);
-    let source = filled.source;
-    State {
-        table,
-        records,
-        from: 0,
-        have: filled.end,
-        stage: stage_of(source),
-    }
+    writer.write_all(lines)
 }
 
 // Nothing has been listed yet.
@@ -139,8 +76,39 @@ fn start(have: usize, stage: Stage) -> State
     }
 }
 
-// Turn after turn, until nothing is left to list. A proved loop has to end, so the turns are counted down from a number that no run uses
-// up.
+impl State {
+    // Lists the whole records at the front of what has been read, and writes their lines. Where there is none, reads more.
+    fn turn<R: Read, W: Write>(
+        &mut self,
+        reader: &mut R,
+        writer: &mut W,
+        input: &mut [u8],
+        out: &mut [u8],
+        shown: bool,
+    )
+        requires { InPlace input.old self.old }
+        ensures { Turned shown input.old out.old self.old self.new input.new out.new }
+    {
+        let chunk = &input[self.from..self.have];
+        let done = listing::chunk::list_chunk(&mut self.table, chunk, out, self.records, shown);
+        self.records = done.records;
+        self.from += done.at;
+        if write_lines(writer, &out[..done.put]).is_err() {
+            self.stage = Stage::CannotWrite;
+            return;
+        }
+        if done.at > 0 {
+            self.stage = Stage::Going;
+            return;
+        }
+        let filled = input::refill(reader, input, self.from, self.have);
+        self.from = 0;
+        self.have = filled.end;
+        self.stage = Stage::from(filled.source);
+    }
+}
+
+// Turn after turn, until nothing is left to list. A proved loop has to end, so the turns are counted up to a number that no run reaches.
 fn all_turns<R: Read, W: Write>(
     rt: HostRuntime,
     reader: &mut R,
@@ -155,16 +123,12 @@ fn all_turns<R: Read, W: Write>(
 {
     let mut s = start(have, Stage::Going);
     let mut told = progress::start(rt);
-    let mut going = true;
-    let mut turns = u64::MAX;
-    while turns > 0 && going {
-        s = turn(reader, writer, input, out, s, shown);
-        let stage = s.stage;
-        going = is_going(stage);
-        if going {
-            told = progress::tell(rt, told, s.records);
+    for _ in 0..u64::MAX {
+        s.turn(reader, writer, input, out, shown);
+        if s.stage != Stage::Going {
+            break;
         }
-        turns -= 1;
+        told = progress::tell(rt, told, s.records);
     }
     progress::hide(rt, told);
     s
@@ -184,7 +148,7 @@ pub fn list_records<R: Read, W: Write>(
 ) -> State
     ensures { RecordsListed shown (take have input.old) input.old out.old result input.new out.new }
 {
-    let end = input::least(have, input.len());
+    let end = have.min(input.len());
     if !lines::roomy(out.len(), 0) {
         return start(end, Stage::CannotWrite);
     }

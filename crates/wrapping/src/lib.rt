@@ -5,6 +5,7 @@
 ghost use Rattle.wrapping.specs.Wrapping.{Remainder, OneOffset};
 
 // `modulo`, by which readings are said to be equal modulo a wrap, is the remainder.
+#[tactic(auto, using(crate::proofs::Modulo::is_remainder))]
 fn remainder()
     ensures { Remainder }
 {}

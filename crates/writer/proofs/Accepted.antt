@@ -49,25 +49,37 @@ fitting g e =
       cip = fit row (cip_values g.cip) all.1;
     }
 
--- a tag of one bit is within its two
-pub packet_fit : (g : Given) → Fitting g → Fit packet_row (packet_values g.stream)
-packet_fit g fit = (omega (arith, fit.stream.0), fit.stream.1)
+-- the rows of the frame
+pub record Rows (g : Given) : Type 0 where
+  pub vlan : Fit vlan_row (vlan_values g.ethernet)
+  pub packet : Fit packet_row (packet_values g.stream)
+  pub source : Fit source_row (source_values g.cip)
+  pub fraction : Fit fraction_row (fraction_values g.cip)
+  pub format : Fit format_row (format_values g.cip)
 
--- the rows of a CIP header
-pub record CipFit (f : CipFields) : Type 0 where
-  pub source : Fit source_row (source_values f)
-  pub fraction : Fit fraction_row (fraction_values f)
-  pub format : Fit format_row (format_values f)
+source_fit : (has : Bool) (f : CipFields) → Fit (cip_row has) (cip_values f) → Fit source_row (source_values f)
+source_fit true f fit = omega (arith, fit)
+source_fit false f fit = omega (arith, fit)
 
-pub cip_fitting : (g : Given) (has : Bool) → has_cip g.stream.tag ≡ has → Fitting g → Fit (cip_row has) (cip_values g.cip)
-cip_fitting g has e fit = subst (λ (b : Bool). Fit (cip_row b) (cip_values g.cip)) e fit.cip
+fraction_fit : (has : Bool) (f : CipFields) → Fit (cip_row has) (cip_values f) → Fit fraction_row (fraction_values f)
+fraction_fit true f fit = omega (arith, fit)
+fraction_fit false f fit = omega (arith, fit)
 
-pub cip_fit : (f : CipFields) → Fit (cip_row true) (cip_values f) → CipFit f
-cip_fit f fit =
+format_fit : (has : Bool) (f : CipFields) → Fit (cip_row has) (cip_values f) → Fit format_row (format_values f)
+format_fit true f fit = omega (arith, fit)
+format_fit false f fit = omega (arith, fit)
+
+-- a tag of one bit is within its two, and a CIP header that is not there is zeros
+pub rows : (g : Given) → fields_fit g ≡ true → Rows g
+rows g e =
+    let fit = fitting g e in
+    let has = has_cip g.stream.tag in
     record {
-      source = omega (arith, fit);
-      fraction = omega (arith, fit);
-      format = omega (arith, fit);
+      vlan = fit.vlan;
+      packet = (omega (arith, fit.stream.0), fit.stream.1);
+      source = source_fit has g.cip fit.cip;
+      fraction = fraction_fit has g.cip fit.cip;
+      format = format_fit has g.cip fit.cip;
     }
 
 module _ (g : Given) (n room : ℕ) (ok : write_refusal g n room ≡ 0) where

@@ -1,4 +1,5 @@
 pub mod Stores
+pub mod Bytes
 pub mod Fits
 pub mod Accepted
 pub mod Answers

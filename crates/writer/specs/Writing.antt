@@ -1,13 +1,12 @@
 -- What a write answers and leaves (document 01, Numbers answered and Sending; requests #105 and #108).
-use Rattle.std.specs.Prelude.{ℕ, ◌+◌, ◌%◌, Bool, true, false, not, ◌&&◌, List, [], ◌∷◌, ◌++◌, length, drop, replicate, ltb}
+use Rattle.std.specs.Prelude.{ℕ, ◌+◌, ◌%◌, Bool, true, false, not, ◌&&◌, List, [], ◌∷◌, ◌++◌, length, drop, replicate, ltb, Result}
 use Rattle.wire.specs.Bits.{fits, bit}
 use Rattle.frame.specs.Layout.{vlan_row, has_cip}
-use Rattle.refusal.specs.Refusals.{number_of, if_accepted, Check, ◌answers◌, first_of}
+use Rattle.refusal.specs.declared.Refusal.{Refusal}
+use Rattle.refusal.specs.Refusals.{verdict_number, if_accepted, Check, ◌answers◌, first_of}
 use Rattle.frame.specs.Checks.{misaddressed, partial_block}
 use Rattle.frame.specs.Reading.{blocks_with}
 use Rattle.writer.specs.declared.Sender.{Sender}
-use Rattle.writer.specs.declared.Written.{Written}
-use Rattle.writer.specs.declared.Written.TheVariants.{Sent, Refused}
 use Rattle.writer.specs.declared.given.EthernetFields.{EthernetFields}
 use Rattle.writer.specs.declared.given.StreamFields.{StreamFields}
 use Rattle.writer.specs.declared.given.CipFields.{CipFields}
@@ -84,10 +83,9 @@ writing s g payload room =
     let n = write_refusal g (length payload) room in
     record { number = n; sender = if_accepted n (advanced s g payload) s }
 
--- what each case of the answer says
-abbrev pub write_answer : Written → WriteAnswer
-write_answer (Sent s) = record { number = 0; sender = s }
-write_answer (Refused r s) = record { number = number_of r; sender = s }
+-- what a result says, with the sender afterwards
+abbrev pub write_answer : Result Unit Refusal → Sender → WriteAnswer
+write_answer result s = record { number = verdict_number result; sender = s }
 
 -- what a write leaves in the output: exactly the frame's bytes are written, and on a refusal none
 unfoldable pub output : Sender → Given → List ℕ → List ℕ → List ℕ

@@ -1,13 +1,13 @@
 // Document 01's checks of a write, in their order.
-ghost use Rattle.std.specs.Prelude.{◌≡◌, true, false};
-ghost use Rattle.frame.specs.Layout.{has_cip};
+ghost use Rattle.std.specs.Prelude.{◌≡◌, ◌≤◌, true, false};
+ghost use Rattle.frame.specs.Layout.{has_cip, cip_length};
 ghost use Rattle.writer.specs.Writing.{ethernet_fits, stream_fits, cip_fits, fields_fit, write_refusal};
 ghost use Rattle.refusal.specs.Refusals.{verdict_number};
 
 use crate::given::{CipFields, EthernetFields, Given, StreamFields};
-use crate::output;
-use refusal::{Refusal, Verdict};
+use refusal::Refusal;
 
+#[tactic(auto, unfolding(crate::specs::Writing::ethernet_fits), using(crate::proofs::Fits::conjoined))]
 fn ethernet_fits(a: EthernetFields) -> bool
     ensures { result ≡ ethernet_fits a }
 {
@@ -17,6 +17,7 @@ fn ethernet_fits(a: EthernetFields) -> bool
         & (a.vid < 4096)
 }
 
+#[tactic(auto, unfolding(crate::specs::Writing::stream_fits), using(crate::proofs::Fits::conjoined))]
 fn stream_fits(o: StreamFields) -> bool
     ensures { result ≡ stream_fits o }
 {
@@ -24,6 +25,7 @@ fn stream_fits(o: StreamFields) -> bool
 }
 
 // With tag 1 each field has its bits.
+#[tactic(auto, unfolding(crate::specs::Writing::cip_fits), using(crate::proofs::Fits::conjoined))]
 fn cip_header_fits(f: CipFields) -> bool
     ensures { result ≡ cip_fits true f }
 {
@@ -31,6 +33,7 @@ fn cip_header_fits(f: CipFields) -> bool
 }
 
 // With tag 0 none has any.
+#[tactic(auto, unfolding(crate::specs::Writing::cip_fits), using(crate::proofs::Fits::conjoined))]
 fn cip_all_zero(f: CipFields) -> bool
     ensures { result ≡ cip_fits false f }
 {
@@ -53,6 +56,7 @@ fn cip_fits(tag: u8, f: CipFields) -> bool
     cip_all_zero(f)
 }
 
+#[tactic(auto, unfolding(crate::specs::Writing::fields_fit))]
 fn fits(given: Given) -> bool
     ensures { result ≡ fields_fit given }
 {
@@ -61,27 +65,34 @@ fn fits(given: Given) -> bool
         & cip_fits(given.stream.tag, given.cip)
 }
 
+// How many bytes the CIP header has in a frame with this tag.
+pub(crate) fn cip_length(tag: u8) -> usize
+    ensures { (result ≡ cip_length (has_cip tag)) × (result ≤ 8) }
+{
+    if tag == 1 { 8 } else { 0 }
+}
+
 // May a frame with these fields and `n` bytes of payload be written into `room` bytes?
 #[tactic(auto, unfolding(refusal::specs::Refusals::first_of, crate::specs::Writing::write_checks, crate::specs::Writing::write_refusal))]
-pub(crate) fn check(given: Given, n: usize, room: usize) -> Verdict
+pub(crate) fn check(given: Given, n: usize, room: usize) -> Result<(), Refusal>
     ensures { verdict_number result ≡ write_refusal given n room }
 {
     if frame::checks::misaddressed(given.ethernet.destination, given.ethernet.source) {
-        return Verdict::Refused(Refusal::WriteWrongAddress);
+        return Err(Refusal::WriteWrongAddress);
     }
     if !fits(given) {
-        return Verdict::Refused(Refusal::WriteFieldTooWide);
+        return Err(Refusal::WriteFieldTooWide);
     }
     let tag = given.stream.tag;
     if (tag == 1) & frame::checks::partial_block(n, given.cip.dbs) {
-        return Verdict::Refused(Refusal::WritePartialBlock);
+        return Err(Refusal::WritePartialBlock);
     }
-    let cip = output::cip_length(tag);
+    let cip = cip_length(tag);
     if 1476 - cip < n {
-        return Verdict::Refused(Refusal::WritePayloadTooLong);
+        return Err(Refusal::WritePayloadTooLong);
     }
     if room < 42 + cip + n {
-        return Verdict::Refused(Refusal::WriteOutputTooShort);
+        return Err(Refusal::WriteOutputTooShort);
     }
-    Verdict::Passed
+    Ok(())
 }

@@ -1,7 +1,7 @@
 // What a caller gives of a frame: every field of the layout but those that a writer sets.
 
 // The Ethernet header. Addresses are 48-bit numbers.
-#[derive(Clone, Copy)]
+#[derive(Clone, Copy, Debug, PartialEq, Eq)]
 pub struct EthernetFields {
     pub destination: u64,
     pub source: u64,
@@ -10,7 +10,7 @@ pub struct EthernetFields {
 }
 
 // Media clock restart, gateway info valid, timestamp valid, timestamp uncertain.
-#[derive(Clone, Copy)]
+#[derive(Clone, Copy, Debug, PartialEq, Eq)]
 pub struct AvtpFields {
     pub mr: bool,
     pub gv: bool,
@@ -19,7 +19,7 @@ pub struct AvtpFields {
 }
 
 // The stream, its AVTP timestamp, and what is left open of the header of an IEEE 1394 packet.
-#[derive(Clone, Copy)]
+#[derive(Clone, Copy, Debug, PartialEq, Eq)]
 pub struct StreamFields {
     pub id: u64,
     pub timestamp: u32,
@@ -31,7 +31,7 @@ pub struct StreamFields {
 }
 
 // The CIP header, without its block count. Every field is 0 or no with tag 0.
-#[derive(Clone, Copy)]
+#[derive(Clone, Copy, Debug, PartialEq, Eq)]
 pub struct CipFields {
     pub sid: u8,
     pub dbs: u8,
@@ -45,7 +45,7 @@ pub struct CipFields {
     pub low_half: u16,
 }
 
-#[derive(Clone, Copy)]
+#[derive(Clone, Copy, Debug, PartialEq, Eq)]
 pub struct Given {
     pub ethernet: EthernetFields,
     pub avtp: AvtpFields,

@@ -1,65 +1,88 @@
 // Does a frame that was read back hold what was given?
-use frame::layout::{Avtp, Cip, Ethernet, Fields, Stream};
+use frame::layout::{Fields, Header};
 use writer::Sender;
 use writer::given::{AvtpFields, CipFields, EthernetFields, Given, StreamFields};
 
-fn ethernet(e: Ethernet, a: EthernetFields) -> bool {
-    (e.destination == a.destination)
-        & (e.source == a.source)
-        & (e.tpid == 0x8100)
-        & (e.pcp == a.pcp)
-        & !e.cfi
-        & (e.vid == a.vid)
-        & (e.ethertype == 0x22f0)
+// Of the fields that were read, those that a caller gives.
+pub(crate) fn given_of(read: Fields) -> Given {
+    let Header {
+        ethernet,
+        avtp,
+        stream,
+    } = read.header;
+    let cip = read.cip;
+    Given {
+        ethernet: EthernetFields {
+            destination: ethernet.destination,
+            source: ethernet.source,
+            pcp: ethernet.pcp,
+            vid: ethernet.vid,
+        },
+        avtp: AvtpFields {
+            mr: avtp.mr,
+            gv: avtp.gv,
+            tv: avtp.tv,
+            tu: avtp.tu,
+        },
+        stream: StreamFields {
+            id: stream.id,
+            timestamp: stream.timestamp,
+            gateway_info: stream.gateway_info,
+            tag: stream.tag,
+            channel: stream.channel,
+            sy: stream.sy,
+        },
+        cip: CipFields {
+            sid: cip.sid,
+            dbs: cip.dbs,
+            fraction_number: cip.fraction_number,
+            qpc: cip.qpc,
+            sph: cip.sph,
+            fmt: cip.fmt,
+            fdf: cip.fdf,
+            low_half: cip.low_half,
+        },
+    }
 }
 
-fn avtp(a: Avtp, sequence: u8, m: AvtpFields) -> bool {
-    !a.cd
-        & (a.subtype == 0)
-        & a.sv
-        & (a.version == 0)
-        & (a.mr == m.mr)
-        & (a.gv == m.gv)
-        & (a.tv == m.tv)
-        & (a.sequence == sequence)
-        & (a.tu == m.tu)
+// And the sender's numbers. With tag 0 there is no block count in the frame, and `unread` stands for it.
+pub(crate) fn sender_of(read: Fields, unread: u8) -> Sender {
+    let dbc = if read.header.stream.tag == 1 {
+        read.cip.dbc
+    } else {
+        unread
+    };
+    Sender {
+        sequence: read.header.avtp.sequence,
+        dbc,
+    }
 }
 
-fn stream(s: Stream, o: StreamFields, n: usize) -> bool {
-    (s.id == o.id)
-        & (s.timestamp == o.timestamp)
-        & (s.gateway_info == o.gateway_info)
-        & (s.data_length as usize == n)
-        & (s.tag == o.tag)
-        & (s.channel == o.channel)
-        & (s.sy == o.sy)
+// What a writer sets in the header of a frame that ends at place `end`. stream_data_length counts from byte 42 on.
+fn set(header: Header, end: usize) -> bool {
+    let Header {
+        ethernet,
+        avtp,
+        stream,
+    } = header;
+    ethernet.tpid == 0x8100
+        && !ethernet.cfi
+        && ethernet.ethertype == 0x22f0
+        && !avtp.cd
+        && avtp.subtype == 0
+        && avtp.sv
+        && avtp.version == 0
+        && 42 + usize::from(stream.data_length) == end
 }
 
-fn cip(c: Cip, f: CipFields, dbc: u8) -> bool {
-    (c.sid == f.sid)
-        & (c.dbs == f.dbs)
-        & (c.fraction_number == f.fraction_number)
-        & (c.qpc == f.qpc)
-        & (c.sph == f.sph)
-        & (c.dbc == dbc)
-        & (c.fmt == f.fmt)
-        & (c.fdf == f.fdf)
-        & (c.low_half == f.low_half)
+// Without a CIP header its block count is read as 0.
+fn block_count(read: Fields) -> bool {
+    read.header.stream.tag == 1 || read.cip.dbc == 0
 }
 
-// The block count that is read: 0 with tag 0, since there is none in the frame.
-fn block_count(tag: u8, dbc: u8) -> u8 {
-    if tag == 1 { dbc } else { 0 }
-}
-
-// `data_length` is what stream_data_length has to be.
-pub(crate) fn fields(read: Fields, sender: Sender, given: Given, data_length: usize) -> bool {
-    ethernet(read.header.ethernet, given.ethernet)
-        & avtp(read.header.avtp, sender.sequence, given.avtp)
-        & stream(read.header.stream, given.stream, data_length)
-        & cip(
-            read.cip,
-            given.cip,
-            block_count(given.stream.tag, sender.dbc),
-        )
+pub(crate) fn fields(read: Fields, sender: Sender, given: Given, end: usize) -> bool {
+    given_of(read) == given
+        && sender_of(read, sender.dbc) == sender
+        && set(read.header, end)
+        && block_count(read)
 }

@@ -12,37 +12,28 @@ use writer::Sender;
 use writer::given::{AvtpFields, CipFields, EthernetFields, Given, StreamFields};
 
 // Every field 0, but for the bit that makes the destination a group address, tag 1 and DBS 1.
-fn lowest_ethernet() -> EthernetFields {
-    EthernetFields {
+const LOWEST: Given = Given {
+    ethernet: EthernetFields {
         destination: 0x0100_0000_0000,
         source: 0,
         pcp: 0,
         vid: 0,
-    }
-}
-
-fn lowest_avtp() -> AvtpFields {
-    AvtpFields {
+    },
+    avtp: AvtpFields {
         mr: false,
         gv: false,
         tv: false,
         tu: false,
-    }
-}
-
-fn lowest_stream() -> StreamFields {
-    StreamFields {
+    },
+    stream: StreamFields {
         id: 0,
         timestamp: 0,
         gateway_info: 0,
         tag: 1,
         channel: 0,
         sy: 0,
-    }
-}
-
-fn lowest_cip() -> CipFields {
-    CipFields {
+    },
+    cip: CipFields {
         sid: 0,
         dbs: 1,
         fraction_number: 0,
@@ -51,438 +42,431 @@ fn lowest_cip() -> CipFields {
         fmt: 0,
         fdf: 0,
         low_half: 0,
-    }
+    },
+};
+
+// Every field at its largest value, but for the bit that would make the source a group address; the largest value of QPC is 0.
+const LARGEST: Given = Given {
+    ethernet: EthernetFields {
+        destination: 0xffff_ffff_ffff,
+        source: 0xfeff_ffff_ffff,
+        pcp: 7,
+        vid: 4095,
+    },
+    avtp: AvtpFields {
+        mr: true,
+        gv: true,
+        tv: true,
+        tu: true,
+    },
+    stream: StreamFields {
+        id: 0xffff_ffff_ffff_ffff,
+        timestamp: 0xffff_ffff,
+        gateway_info: 0xffff_ffff,
+        tag: 1,
+        channel: 63,
+        sy: 15,
+    },
+    cip: CipFields {
+        sid: 63,
+        dbs: 255,
+        fraction_number: 3,
+        qpc: 0,
+        sph: true,
+        fmt: 63,
+        fdf: 255,
+        low_half: 65535,
+    },
+};
+
+// A given frame with a change.
+fn changed<F: FnOnce(&mut Given)>(given: Given, change: F) -> Given
+    requires { F.IsAlwaysCallable change }
+{
+    let mut given = given;
+    change(&mut given);
+    given
 }
 
-fn with_cip(cip: CipFields) -> Given {
-    Given {
-        ethernet: lowest_ethernet(),
-        avtp: lowest_avtp(),
-        stream: lowest_stream(),
-        cip,
-    }
+fn lowest<F: FnOnce(&mut Given)>(change: F) -> Given
+    requires { F.IsAlwaysCallable change }
+{
+    changed(LOWEST, change)
 }
 
-// Every field in front of a CIP header at its largest value, but for the bit that would make the source a group address.
-fn largest_with(tag: u8, cip: CipFields) -> Given {
-    Given {
-        ethernet: EthernetFields {
-            destination: 0xffff_ffff_ffff,
-            source: 0xfeff_ffff_ffff,
-            pcp: 7,
-            vid: 4095,
-        },
-        avtp: AvtpFields {
-            mr: true,
-            gv: true,
-            tv: true,
-            tu: true,
-        },
-        stream: StreamFields {
-            id: 0xffff_ffff_ffff_ffff,
-            timestamp: 0xffff_ffff,
-            gateway_info: 0xffff_ffff,
-            tag,
-            channel: 63,
-            sy: 15,
-        },
-        cip,
-    }
+// The same with this tag, and with no CIP header.
+fn bare(tag: u8, given: Given) -> Given {
+    changed(given, |g| {
+        g.stream.tag = tag;
+        g.cip = CipFields {
+            dbs: 0,
+            ..LOWEST.cip
+        };
+    })
 }
 
-// And every field of the CIP header; the largest value of QPC is 0.
-fn largest() -> Given {
-    largest_with(
-        1,
-        CipFields {
-            sid: 63,
-            dbs: 255,
-            fraction_number: 3,
-            qpc: 0,
-            sph: true,
-            fmt: 63,
-            fdf: 255,
-            low_half: 65535,
-        },
-    )
+// The lowest fields with tag 0 and a change.
+fn bare_lowest<F: FnOnce(&mut Given)>(change: F) -> Given
+    requires { F.IsAlwaysCallable change }
+{
+    changed(bare(0, LOWEST), change)
 }
 
-fn start() -> Sender {
-    Sender {
+// A new sender's frame, with a payload of `n` bytes and an output of `room`.
+fn first(rt: HostRuntime, name: &str, given: Given, n: usize, room: usize) -> io::Result<()> {
+    let mut sender = Sender {
         sequence: 0,
         dbc: 0,
-    }
+    };
+    show(rt, name, &mut sender, given, n, room)
 }
 
-// A payload of four bytes, and room to spare.
-fn edge(rt: HostRuntime, name: &[u8], given: Given) -> io::Result<()> {
-    show(rt, name, start(), given, 4, 100)?;
+// One for each name and what is given under it, with a payload of four bytes, and room to spare.
+fn edges(rt: HostRuntime, cases: &[(&str, Given)]) -> io::Result<()> {
+    for (name, given) in cases {
+        first(rt, name, *given, 4, 100)?;
+    }
     Ok(())
 }
 
-fn ethernet_edge(rt: HostRuntime, name: &[u8], ethernet: EthernetFields) -> io::Result<()> {
-    edge(
-        rt,
-        name,
-        Given {
-            ethernet,
-            avtp: lowest_avtp(),
-            stream: lowest_stream(),
-            cip: lowest_cip(),
-        },
-    )
+// One for each name and the lengths under it, of the payload and of the output.
+fn lengths(rt: HostRuntime, given: Given, cases: &[(&str, usize, usize)]) -> io::Result<()> {
+    for (name, n, room) in cases {
+        first(rt, name, given, *n, *room)?;
+    }
+    Ok(())
 }
 
-fn avtp_edge(rt: HostRuntime, name: &[u8], avtp: AvtpFields) -> io::Result<()> {
-    edge(
-        rt,
-        name,
-        Given {
-            ethernet: lowest_ethernet(),
-            avtp,
-            stream: lowest_stream(),
-            cip: lowest_cip(),
-        },
-    )
-}
-
-fn stream_edge(rt: HostRuntime, name: &[u8], stream: StreamFields) -> io::Result<()> {
-    edge(
-        rt,
-        name,
-        Given {
-            ethernet: lowest_ethernet(),
-            avtp: lowest_avtp(),
-            stream,
-            cip: lowest_cip(),
-        },
-    )
-}
-
-fn cip_edge(rt: HostRuntime, name: &[u8], cip: CipFields) -> io::Result<()> {
-    edge(rt, name, with_cip(cip))
-}
-
-// A payload of n bytes, the fields the lowest but for DBS.
-fn size_edge(rt: HostRuntime, name: &[u8], dbs: u8, n: usize, room: usize) -> io::Result<()> {
-    let mut cip = lowest_cip();
-    cip.dbs = dbs;
-    show(rt, name, start(), with_cip(cip), n, room)?;
+// One sender's frames, one after the other, with room to spare.
+fn in_turn(rt: HostRuntime, sender: Sender, cases: &[(&str, Given, usize)]) -> io::Result<()> {
+    let mut sender = sender;
+    for (name, given, n) in cases {
+        show(rt, name, &mut sender, *given, *n, 1600)?;
+    }
     Ok(())
 }
 
 // Each of the lowest fields at its largest value.
-fn ethernet_edges(rt: HostRuntime) -> io::Result<()> {
-    let mut destination = lowest_ethernet();
-    destination.destination = 0xffff_ffff_ffff;
-    ethernet_edge(rt, b"destination largest", destination)?;
-    let mut source = lowest_ethernet();
-    source.source = 0xfeff_ffff_ffff;
-    ethernet_edge(rt, b"source largest", source)?;
-    let mut pcp = lowest_ethernet();
-    pcp.pcp = 7;
-    ethernet_edge(rt, b"pcp 7", pcp)?;
-    let mut vid = lowest_ethernet();
-    vid.vid = 4095;
-    ethernet_edge(rt, b"vid 4095", vid)
+fn largest_ethernet(rt: HostRuntime) -> io::Result<()> {
+    edges(
+        rt,
+        &[
+            (
+                "destination largest",
+                lowest(|g| g.ethernet.destination = 0xffff_ffff_ffff),
+            ),
+            (
+                "source largest",
+                lowest(|g| g.ethernet.source = 0xfeff_ffff_ffff),
+            ),
+            ("pcp 7", lowest(|g| g.ethernet.pcp = 7)),
+            ("vid 4095", lowest(|g| g.ethernet.vid = 4095)),
+        ],
+    )
 }
 
 // The same of the four flags.
-fn avtp_edges(rt: HostRuntime) -> io::Result<()> {
-    let mut mr = lowest_avtp();
-    mr.mr = true;
-    avtp_edge(rt, b"mr", mr)?;
-    let mut gv = lowest_avtp();
-    gv.gv = true;
-    avtp_edge(rt, b"gv", gv)?;
-    let mut tv = lowest_avtp();
-    tv.tv = true;
-    avtp_edge(rt, b"tv", tv)?;
-    let mut tu = lowest_avtp();
-    tu.tu = true;
-    avtp_edge(rt, b"tu", tu)
+fn flags(rt: HostRuntime) -> io::Result<()> {
+    edges(
+        rt,
+        &[
+            ("mr", lowest(|g| g.avtp.mr = true)),
+            ("gv", lowest(|g| g.avtp.gv = true)),
+            ("tv", lowest(|g| g.avtp.tv = true)),
+            ("tu", lowest(|g| g.avtp.tu = true)),
+        ],
+    )
 }
 
 // The same of the stream and the packet header.
-fn stream_edges(rt: HostRuntime) -> io::Result<()> {
-    let mut id = lowest_stream();
-    id.id = 0xffff_ffff_ffff_ffff;
-    stream_edge(rt, b"stream id largest", id)?;
-    let mut timestamp = lowest_stream();
-    timestamp.timestamp = 0xffff_ffff;
-    stream_edge(rt, b"timestamp largest", timestamp)?;
-    let mut gateway = lowest_stream();
-    gateway.gateway_info = 0xffff_ffff;
-    stream_edge(rt, b"gateway info largest", gateway)?;
-    let mut channel = lowest_stream();
-    channel.channel = 63;
-    stream_edge(rt, b"channel 63", channel)?;
-    let mut sy = lowest_stream();
-    sy.sy = 15;
-    stream_edge(rt, b"sy 15", sy)
+fn largest_stream(rt: HostRuntime) -> io::Result<()> {
+    edges(
+        rt,
+        &[
+            (
+                "stream id largest",
+                lowest(|g| g.stream.id = 0xffff_ffff_ffff_ffff),
+            ),
+            (
+                "timestamp largest",
+                lowest(|g| g.stream.timestamp = 0xffff_ffff),
+            ),
+            (
+                "gateway info largest",
+                lowest(|g| g.stream.gateway_info = 0xffff_ffff),
+            ),
+            ("channel 63", lowest(|g| g.stream.channel = 63)),
+            ("sy 15", lowest(|g| g.stream.sy = 15)),
+        ],
+    )
 }
 
 // The same of the CIP header; DBS is with the payloads, and QPC with the refusals.
-fn cip_edges(rt: HostRuntime) -> io::Result<()> {
-    let mut sid = lowest_cip();
-    sid.sid = 63;
-    cip_edge(rt, b"sid 63", sid)?;
-    let mut fraction = lowest_cip();
-    fraction.fraction_number = 3;
-    cip_edge(rt, b"fn 3", fraction)?;
-    let mut sph = lowest_cip();
-    sph.sph = true;
-    cip_edge(rt, b"sph", sph)?;
-    let mut fmt = lowest_cip();
-    fmt.fmt = 63;
-    cip_edge(rt, b"fmt 63", fmt)?;
-    let mut fdf = lowest_cip();
-    fdf.fdf = 255;
-    cip_edge(rt, b"fdf 255", fdf)?;
-    let mut low = lowest_cip();
-    low.low_half = 65535;
-    cip_edge(rt, b"low half 65535", low)
+fn largest_cip(rt: HostRuntime) -> io::Result<()> {
+    edges(
+        rt,
+        &[
+            ("sid 63", lowest(|g| g.cip.sid = 63)),
+            ("fn 3", lowest(|g| g.cip.fraction_number = 3)),
+            ("sph", lowest(|g| g.cip.sph = true)),
+            ("fmt 63", lowest(|g| g.cip.fmt = 63)),
+            ("fdf 255", lowest(|g| g.cip.fdf = 255)),
+            ("low half 65535", lowest(|g| g.cip.low_half = 65535)),
+        ],
+    )
 }
 
 // DBS 1 with the shortest and the longest payload; DBS 0, which stands for 256 quadlets; DBS 255.
-fn payload_edges(rt: HostRuntime) -> io::Result<()> {
-    size_edge(rt, b"no payload", 1, 0, 50)?;
-    size_edge(rt, b"payload 1468", 1, 1468, 1518)?;
-    size_edge(rt, b"dbs 0, no payload", 0, 0, 1600)?;
-    size_edge(rt, b"dbs 0, payload 1024", 0, 1024, 1600)?;
-    size_edge(rt, b"dbs 255, payload 1020", 255, 1020, 1600)
+fn payloads(rt: HostRuntime) -> io::Result<()> {
+    lengths(
+        rt,
+        LOWEST,
+        &[("no payload", 0, 50), ("payload 1468", 1468, 1518)],
+    )?;
+    lengths(
+        rt,
+        lowest(|g| g.cip.dbs = 0),
+        &[
+            ("dbs 0, no payload", 0, 1600),
+            ("dbs 0, payload 1024", 1024, 1600),
+        ],
+    )?;
+    first(
+        rt,
+        "dbs 255, payload 1020",
+        lowest(|g| g.cip.dbs = 255),
+        1020,
+        1600,
+    )
 }
 
 // 31: a destination that is no group address, a source that is one.
 fn wrong_addresses(rt: HostRuntime) -> io::Result<()> {
-    let mut to = lowest_ethernet();
-    to.destination = 0xfeff_ffff_ffff;
-    ethernet_edge(rt, b"destination no group", to)?;
-    let mut from = lowest_ethernet();
-    from.source = 0x0100_0000_0000;
-    ethernet_edge(rt, b"source a group", from)
+    edges(
+        rt,
+        &[
+            (
+                "destination no group",
+                lowest(|g| g.ethernet.destination = 0xfeff_ffff_ffff),
+            ),
+            (
+                "source a group",
+                lowest(|g| g.ethernet.source = 0x0100_0000_0000),
+            ),
+        ],
+    )
 }
 
 // 32: each field one above its largest value.
-fn wide_ethernet_fields(rt: HostRuntime) -> io::Result<()> {
-    let mut destination = lowest_ethernet();
-    destination.destination = 0x1_0100_0000_0000;
-    ethernet_edge(rt, b"destination of 49 bits", destination)?;
-    let mut source = lowest_ethernet();
-    source.source = 0x1_0000_0000_0000;
-    ethernet_edge(rt, b"source of 49 bits", source)?;
-    let mut pcp = lowest_ethernet();
-    pcp.pcp = 8;
-    ethernet_edge(rt, b"pcp 8", pcp)?;
-    let mut vid = lowest_ethernet();
-    vid.vid = 4096;
-    ethernet_edge(rt, b"vid 4096", vid)
+fn wide_ethernet(rt: HostRuntime) -> io::Result<()> {
+    edges(
+        rt,
+        &[
+            (
+                "destination of 49 bits",
+                lowest(|g| g.ethernet.destination = 0x1_0100_0000_0000),
+            ),
+            (
+                "source of 49 bits",
+                lowest(|g| g.ethernet.source = 0x1_0000_0000_0000),
+            ),
+            ("pcp 8", lowest(|g| g.ethernet.pcp = 8)),
+            ("vid 4096", lowest(|g| g.ethernet.vid = 4096)),
+        ],
+    )
 }
 
 // 32 too.
-fn wide_stream_fields(rt: HostRuntime) -> io::Result<()> {
-    let mut channel = lowest_stream();
-    channel.channel = 64;
-    stream_edge(rt, b"channel 64", channel)?;
-    let mut sy = lowest_stream();
-    sy.sy = 16;
-    stream_edge(rt, b"sy 16", sy)
-}
-
-fn wide_cip_fields(rt: HostRuntime) -> io::Result<()> {
-    let mut sid = lowest_cip();
-    sid.sid = 64;
-    cip_edge(rt, b"sid 64", sid)?;
-    let mut fraction = lowest_cip();
-    fraction.fraction_number = 4;
-    cip_edge(rt, b"fn 4", fraction)?;
-    let mut fmt = lowest_cip();
-    fmt.fmt = 64;
-    cip_edge(rt, b"fmt 64", fmt)
-}
-
-fn qpc_edge(rt: HostRuntime, name: &[u8], qpc: u8) -> io::Result<()> {
-    let mut cip = lowest_cip();
-    cip.qpc = qpc;
-    cip_edge(rt, name, cip)
+fn wide_stream_and_cip(rt: HostRuntime) -> io::Result<()> {
+    edges(
+        rt,
+        &[
+            ("channel 64", lowest(|g| g.stream.channel = 64)),
+            ("sy 16", lowest(|g| g.stream.sy = 16)),
+            ("sid 64", lowest(|g| g.cip.sid = 64)),
+            ("fn 4", lowest(|g| g.cip.fraction_number = 4)),
+            ("fmt 64", lowest(|g| g.cip.fmt = 64)),
+        ],
+    )
 }
 
 // 32 too: QPC is 0 (request #105).
-fn qpc_edges(rt: HostRuntime) -> io::Result<()> {
-    qpc_edge(rt, b"qpc 1", 1)?;
-    qpc_edge(rt, b"qpc 2", 2)?;
-    qpc_edge(rt, b"qpc 3", 3)?;
-    qpc_edge(rt, b"qpc 4", 4)?;
-    qpc_edge(rt, b"qpc 5", 5)?;
-    qpc_edge(rt, b"qpc 6", 6)?;
-    qpc_edge(rt, b"qpc 7", 7)?;
-    qpc_edge(rt, b"qpc 8", 8)?;
-    qpc_edge(rt, b"qpc 255", 255)
+fn qpc(rt: HostRuntime) -> io::Result<()> {
+    edges(
+        rt,
+        &[
+            ("qpc 1", lowest(|g| g.cip.qpc = 1)),
+            ("qpc 2", lowest(|g| g.cip.qpc = 2)),
+            ("qpc 3", lowest(|g| g.cip.qpc = 3)),
+            ("qpc 4", lowest(|g| g.cip.qpc = 4)),
+            ("qpc 5", lowest(|g| g.cip.qpc = 5)),
+            ("qpc 6", lowest(|g| g.cip.qpc = 6)),
+            ("qpc 7", lowest(|g| g.cip.qpc = 7)),
+            ("qpc 8", lowest(|g| g.cip.qpc = 8)),
+            ("qpc 255", lowest(|g| g.cip.qpc = 255)),
+        ],
+    )
 }
 
 // 33, 34 and 35 on both sides of their edges.
-fn lengths(rt: HostRuntime) -> io::Result<()> {
-    size_edge(rt, b"payload 3", 1, 3, 1600)?;
-    size_edge(rt, b"payload 5", 1, 5, 1600)?;
-    size_edge(rt, b"dbs 0, payload 1020", 0, 1020, 1600)?;
-    size_edge(rt, b"dbs 0, payload 1028", 0, 1028, 1600)?;
-    size_edge(rt, b"payload 1472", 1, 1472, 1600)?;
-    size_edge(rt, b"room 53 of 54", 1, 4, 53)?;
-    size_edge(rt, b"room 54 of 54", 1, 4, 54)?;
-    size_edge(rt, b"no room", 1, 0, 0)
+fn wrong_lengths(rt: HostRuntime) -> io::Result<()> {
+    lengths(
+        rt,
+        LOWEST,
+        &[("payload 3", 3, 1600), ("payload 5", 5, 1600)],
+    )?;
+    lengths(
+        rt,
+        lowest(|g| g.cip.dbs = 0),
+        &[
+            ("dbs 0, payload 1020", 1020, 1600),
+            ("dbs 0, payload 1028", 1028, 1600),
+        ],
+    )?;
+    lengths(
+        rt,
+        LOWEST,
+        &[
+            ("payload 1472", 1472, 1600),
+            ("room 53 of 54", 4, 53),
+            ("room 54 of 54", 4, 54),
+            ("no room", 0, 0),
+        ],
+    )
 }
 
 // Where two numbers apply, the lower one answers.
 fn two_apply(rt: HostRuntime) -> io::Result<()> {
-    let mut address = lowest_ethernet();
-    address.destination = 0x1_0000_0000_0000;
-    ethernet_edge(rt, b"31 and 32", address)?;
-    let mut field = lowest_cip();
-    field.fmt = 64;
-    show(rt, b"32 and 33", start(), with_cip(field), 3, 1600)?;
-    size_edge(rt, b"33 and 34", 1, 1469, 1600)?;
-    size_edge(rt, b"33 and 35", 1, 1, 50)?;
-    size_edge(rt, b"34 and 35", 1, 1472, 1521)
+    let address = lowest(|g| g.ethernet.destination = 0x1_0000_0000_0000);
+    let format = lowest(|g| g.cip.fmt = 64);
+    first(rt, "31 and 32", address, 4, 100)?;
+    first(rt, "32 and 33", format, 3, 1600)?;
+    lengths(
+        rt,
+        LOWEST,
+        &[
+            ("33 and 34", 1469, 1600),
+            ("33 and 35", 1, 50),
+            ("34 and 35", 1472, 1521),
+        ],
+    )
 }
 
-// The fields of a CIP header that is not there.
-fn no_cip() -> CipFields {
-    let mut cip = lowest_cip();
-    cip.dbs = 0;
-    cip
-}
-
-fn tagged(tag: u8) -> StreamFields {
-    let mut stream = lowest_stream();
-    stream.tag = tag;
-    stream
-}
-
-// The lowest fields with a tag and these fields of a CIP header.
-fn with_tag(tag: u8, cip: CipFields) -> Given {
-    Given {
-        ethernet: lowest_ethernet(),
-        avtp: lowest_avtp(),
-        stream: tagged(tag),
-        cip,
-    }
-}
-
-// A payload of n bytes with tag 0.
-fn bare_edge(rt: HostRuntime, name: &[u8], n: usize, room: usize) -> io::Result<()> {
-    show(rt, name, start(), with_tag(0, no_cip()), n, room)?;
-    Ok(())
+// One sender's writes: both numbers wrap, a refused write leaves them, and a frame with no blocks leaves the block count.
+fn one_sender(rt: HostRuntime) -> io::Result<()> {
+    let sender = Sender {
+        sequence: 254,
+        dbc: 250,
+    };
+    in_turn(
+        rt,
+        sender,
+        &[
+            ("8 blocks", LOWEST, 32),
+            ("refused between", LOWEST, 33),
+            ("no blocks", LOWEST, 0),
+            ("367 blocks", LOWEST, 1468),
+            ("1 block", LOWEST, 4),
+        ],
+    )
 }
 
 // With tag 0 a payload has any length up to 1,476 bytes, and 33 is not asked.
 fn bare_payloads(rt: HostRuntime) -> io::Result<()> {
-    bare_edge(rt, b"tag 0, no payload", 0, 42)?;
-    bare_edge(rt, b"tag 0, payload 1", 1, 1600)?;
-    bare_edge(rt, b"tag 0, payload 2", 2, 1600)?;
-    bare_edge(rt, b"tag 0, payload 3", 3, 1600)?;
-    bare_edge(rt, b"tag 0, payload 1024", 1024, 1600)?;
-    bare_edge(rt, b"tag 0, payload 1469", 1469, 1600)?;
-    bare_edge(rt, b"tag 0, payload 1476", 1476, 1518)
+    lengths(
+        rt,
+        bare(0, LOWEST),
+        &[
+            ("tag 0, no payload", 0, 42),
+            ("tag 0, payload 1", 1, 1600),
+            ("tag 0, payload 2", 2, 1600),
+            ("tag 0, payload 3", 3, 1600),
+            ("tag 0, payload 1024", 1024, 1600),
+            ("tag 0, payload 1469", 1469, 1600),
+            ("tag 0, payload 1476", 1476, 1518),
+        ],
+    )
 }
 
 // 34 and 35 with the sizes of tag 0.
 fn bare_lengths(rt: HostRuntime) -> io::Result<()> {
-    bare_edge(rt, b"tag 0, payload 1477", 1477, 1600)?;
-    bare_edge(rt, b"tag 0, room 44 of 45", 3, 44)?;
-    bare_edge(rt, b"tag 0, room 45 of 45", 3, 45)?;
-    bare_edge(rt, b"tag 0, room 41 of 42", 0, 41)
-}
-
-fn tag_edge(rt: HostRuntime, name: &[u8], tag: u8) -> io::Result<()> {
-    edge(rt, name, with_tag(tag, no_cip()))
+    lengths(
+        rt,
+        bare(0, LOWEST),
+        &[
+            ("tag 0, payload 1477", 1477, 1600),
+            ("tag 0, room 44 of 45", 3, 44),
+            ("tag 0, room 45 of 45", 3, 45),
+            ("tag 0, room 41 of 42", 0, 41),
+        ],
+    )
 }
 
 // 32: a tag above 1.
-fn tag_edges(rt: HostRuntime) -> io::Result<()> {
-    tag_edge(rt, b"tag 2", 2)?;
-    tag_edge(rt, b"tag 3", 3)?;
-    tag_edge(rt, b"tag 4", 4)?;
-    tag_edge(rt, b"tag 255", 255)
+fn tags(rt: HostRuntime) -> io::Result<()> {
+    edges(
+        rt,
+        &[
+            ("tag 2", bare(2, LOWEST)),
+            ("tag 3", bare(3, LOWEST)),
+            ("tag 4", bare(4, LOWEST)),
+            ("tag 255", bare(255, LOWEST)),
+        ],
+    )
 }
 
-fn bare_cip_edge(rt: HostRuntime, name: &[u8], cip: CipFields) -> io::Result<()> {
-    edge(rt, name, with_tag(0, cip))
-}
-
-// 32 too: tag 0 with a field of a CIP header, the first quadlet and the second.
-fn bare_source_fields(rt: HostRuntime) -> io::Result<()> {
-    let mut sid = no_cip();
-    sid.sid = 1;
-    bare_cip_edge(rt, b"tag 0, sid 1", sid)?;
-    let mut dbs = no_cip();
-    dbs.dbs = 1;
-    bare_cip_edge(rt, b"tag 0, dbs 1", dbs)?;
-    let mut fraction = no_cip();
-    fraction.fraction_number = 1;
-    bare_cip_edge(rt, b"tag 0, fn 1", fraction)?;
-    let mut qpc = no_cip();
-    qpc.qpc = 1;
-    bare_cip_edge(rt, b"tag 0, qpc 1", qpc)?;
-    let mut sph = no_cip();
-    sph.sph = true;
-    bare_cip_edge(rt, b"tag 0, sph", sph)
-}
-
-fn bare_format_fields(rt: HostRuntime) -> io::Result<()> {
-    let mut fmt = no_cip();
-    fmt.fmt = 1;
-    bare_cip_edge(rt, b"tag 0, fmt 1", fmt)?;
-    let mut fdf = no_cip();
-    fdf.fdf = 1;
-    bare_cip_edge(rt, b"tag 0, fdf 1", fdf)?;
-    let mut low = no_cip();
-    low.low_half = 1;
-    bare_cip_edge(rt, b"tag 0, low half 1", low)
+// 32 too: tag 0 with a field of a CIP header.
+fn bare_cip(rt: HostRuntime) -> io::Result<()> {
+    edges(
+        rt,
+        &[
+            ("tag 0, sid 1", bare_lowest(|g| g.cip.sid = 1)),
+            ("tag 0, dbs 1", bare_lowest(|g| g.cip.dbs = 1)),
+            ("tag 0, fn 1", bare_lowest(|g| g.cip.fraction_number = 1)),
+            ("tag 0, qpc 1", bare_lowest(|g| g.cip.qpc = 1)),
+            ("tag 0, sph", bare_lowest(|g| g.cip.sph = true)),
+            ("tag 0, fmt 1", bare_lowest(|g| g.cip.fmt = 1)),
+            ("tag 0, fdf 1", bare_lowest(|g| g.cip.fdf = 1)),
+            ("tag 0, low half 1", bare_lowest(|g| g.cip.low_half = 1)),
+        ],
+    )
 }
 
 // Where two numbers apply with tag 0, the lower one answers.
 fn bare_two_apply(rt: HostRuntime) -> io::Result<()> {
-    let mut address = lowest_ethernet();
-    address.destination = 0;
-    edge(
+    let format = bare_lowest(|g| g.cip.dbs = 1);
+    let address = changed(format, |g| g.ethernet.destination = 0);
+    first(rt, "tag 0, 31 and 32", address, 4, 100)?;
+    lengths(
         rt,
-        b"tag 0, 31 and 32",
-        Given {
-            ethernet: address,
-            avtp: lowest_avtp(),
-            stream: tagged(0),
-            cip: lowest_cip(),
-        },
+        format,
+        &[
+            ("tag 0, 32 and 34", 1477, 1600),
+            ("tag 0, 32 and 35", 3, 44),
+        ],
     )?;
-    let field = with_tag(0, lowest_cip());
-    show(rt, b"tag 0, 32 and 34", start(), field, 1477, 1600)?;
-    show(rt, b"tag 0, 32 and 35", start(), field, 3, 44)?;
-    bare_edge(rt, b"tag 0, 34 and 35", 1477, 1518)
-}
-
-// The next write of a sender.
-fn sent_on(rt: HostRuntime, name: &[u8], sender: Sender, n: usize) -> io::Result<Sender> {
-    show(rt, name, sender, with_cip(lowest_cip()), n, 1600)
-}
-
-// The same with tag 0.
-fn sent_bare(rt: HostRuntime, name: &[u8], sender: Sender, n: usize) -> io::Result<Sender> {
-    show(rt, name, sender, with_tag(0, no_cip()), n, 1600)
+    first(rt, "tag 0, 34 and 35", bare(0, LOWEST), 1477, 1518)
 }
 
 // One sender's writes with both tags: a frame with tag 0 moves the sequence number on and leaves the block count.
 fn one_mixed_sender(rt: HostRuntime) -> io::Result<()> {
-    let first = Sender {
+    let sender = Sender {
         sequence: 253,
         dbc: 250,
     };
-    let second = sent_bare(rt, b"tag 0 first", first, 1024)?;
-    let third = sent_on(rt, b"tag 1, 8 blocks", second, 32)?;
-    let fourth = sent_bare(rt, b"tag 0, sequence 255", third, 1476)?;
-    let fifth = sent_bare(rt, b"tag 0 refused between", fourth, 1477)?;
-    let sixth = sent_bare(rt, b"tag 0, sequence 0", fifth, 3)?;
-    sent_on(rt, b"tag 1, 1 block", sixth, 4)?;
-    Ok(())
+    let bare = bare(0, LOWEST);
+    in_turn(
+        rt,
+        sender,
+        &[
+            ("tag 0 first", bare, 1024),
+            ("tag 1, 8 blocks", LOWEST, 32),
+            ("tag 0, sequence 255", bare, 1476),
+            ("tag 0 refused between", bare, 1477),
+            ("tag 0, sequence 0", bare, 3),
+            ("tag 1, 1 block", LOWEST, 4),
+        ],
+    )
 }
 
 // Frames read and written again.
@@ -491,74 +475,34 @@ fn written_back(rt: HostRuntime) -> io::Result<()> {
         sequence: 200,
         dbc: 100,
     };
-    again(rt, b"tag 1 again", sender, with_cip(lowest_cip()), 4)?;
-    again(rt, b"largest again", sender, largest(), 1020)?;
-    again(
-        rt,
-        b"tag 0, no payload again",
-        sender,
-        with_tag(0, no_cip()),
-        0,
-    )?;
-    again(
-        rt,
-        b"tag 0, payload 3 again",
-        sender,
-        with_tag(0, no_cip()),
-        3,
-    )?;
-    again(
-        rt,
-        b"tag 0, largest again",
-        sender,
-        largest_with(0, no_cip()),
-        1476,
-    )
-}
-
-// One sender's writes: both numbers wrap, a refused write leaves them, and a frame with no blocks leaves the block count.
-fn one_sender(rt: HostRuntime) -> io::Result<()> {
-    let first = Sender {
-        sequence: 254,
-        dbc: 250,
-    };
-    let second = sent_on(rt, b"8 blocks", first, 32)?;
-    let third = sent_on(rt, b"refused between", second, 33)?;
-    let fourth = sent_on(rt, b"no blocks", third, 0)?;
-    let fifth = sent_on(rt, b"367 blocks", fourth, 1468)?;
-    sent_on(rt, b"1 block", fifth, 4)?;
-    Ok(())
+    let bare_lowest = bare(0, LOWEST);
+    again(rt, "tag 1 again", sender, LOWEST, 4)?;
+    again(rt, "largest again", sender, LARGEST, 1020)?;
+    again(rt, "tag 0, no payload again", sender, bare_lowest, 0)?;
+    again(rt, "tag 0, payload 3 again", sender, bare_lowest, 3)?;
+    again(rt, "tag 0, largest again", sender, bare(0, LARGEST), 1476)
 }
 
 fn main(rt: HostRuntime) -> io::Result<()> {
-    cip_edge(rt, b"lowest", lowest_cip())?;
-    show(rt, b"largest", start(), largest(), 1020, 1600)?;
-    ethernet_edges(rt)?;
-    avtp_edges(rt)?;
-    stream_edges(rt)?;
-    cip_edges(rt)?;
-    payload_edges(rt)?;
+    first(rt, "lowest", LOWEST, 4, 100)?;
+    first(rt, "largest", LARGEST, 1020, 1600)?;
+    largest_ethernet(rt)?;
+    flags(rt)?;
+    largest_stream(rt)?;
+    largest_cip(rt)?;
+    payloads(rt)?;
     wrong_addresses(rt)?;
-    wide_ethernet_fields(rt)?;
-    wide_stream_fields(rt)?;
-    wide_cip_fields(rt)?;
-    qpc_edges(rt)?;
-    lengths(rt)?;
+    wide_ethernet(rt)?;
+    wide_stream_and_cip(rt)?;
+    qpc(rt)?;
+    wrong_lengths(rt)?;
     two_apply(rt)?;
     one_sender(rt)?;
     bare_payloads(rt)?;
-    show(
-        rt,
-        b"tag 0, largest",
-        start(),
-        largest_with(0, no_cip()),
-        1476,
-        1600,
-    )?;
+    first(rt, "tag 0, largest", bare(0, LARGEST), 1476, 1600)?;
     bare_lengths(rt)?;
-    tag_edges(rt)?;
-    bare_source_fields(rt)?;
-    bare_format_fields(rt)?;
+    tags(rt)?;
+    bare_cip(rt)?;
     bare_two_apply(rt)?;
     one_mixed_sender(rt)?;
     written_back(rt)

@@ -16,10 +16,10 @@ returns-in_default-clause-stands_in c =
     (refl, λ h. absurd (omega (arith, h, number, (positive c.in_default.field-0).1)))
 
 pub returns-clause-result_value : goal.returns-clause-result_value
-returns-clause-result_value c = c.«data».ensures.result_value ∙ accepted_payload c.args.frame.now c.read.ensures c.in-Accepted.is
+returns-clause-result_value c = c.«data».ensures.result_value ∙ accepted_payload c.args.frame.now c.read.ensures c.in-Ok.is
 
 pub returns-clause-stands_in : goal.returns-clause-stands_in
 returns-clause-stands_in c =
     let frame = c.args.frame.now in
-    let place = c.«data».ensures.stands_in.1 (accepted_there frame c.read.ensures c.in-Accepted.is) in
-    (c.«data».ensures.stands_in.0, λ h. rw (← accepted_fields frame c.read.ensures c.in-Accepted.is) place)
+    let place = c.«data».ensures.stands_in.1 (accepted_there frame c.read.ensures c.in-Ok.is) in
+    (c.«data».ensures.stands_in.0, λ h. rw (← accepted_fields frame c.read.ensures c.in-Ok.is) place)

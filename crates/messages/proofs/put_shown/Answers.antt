@@ -4,12 +4,12 @@ use Rattle.messages.specs.Messages.{shown}
 use Rattle.messages.proofs.Names.{one_more, all_put}
 use Rattle.messages.proofs.put_shown.Goals as goal
 
-pub loop-i-init : goal.loop-i-init
+pub loop-b-init : goal.loop-b-init
 unfolding shown
-loop-i-init c = (omega arith, none_put c.args.out.now c.args.at (omega arith))
+loop-b-init c = none_put c.args.out.now c.args.at (omega arith)
 
-pub loop-i-preserved : goal.loop-i-preserved
-loop-i-preserved c = (omega arith, one_more c.args.name.now c.loop-i.i c.loop-i.invariant.1 (omega arith) c.put_byte-end.ensures)
+pub loop-b-preserved : goal.loop-b-preserved
+loop-b-preserved c = one_more c.args.name.now c.loop-b.b-index c.loop-b.invariant (omega arith) c.put_byte-end.ensures
 
 pub returns : goal.returns
-returns c = all_put c.args.name.now c.loop-i.i c.loop-i.invariant.1 (omega arith)
+returns c = all_put c.args.name.now c.loop-b.b-index c.loop-b.invariant (omega arith)

@@ -5,6 +5,3 @@ use Rattle.options.proofs.read_request.Given as goal
 -- the arguments so far are names
 abbrev pub invariant-loop-i : goal.invariant-loop-i
 invariant-loop-i g l = Names l.i × (l.i - 1 ≤ l.count - 1)
-
-abbrev pub decreases-loop-i : goal.decreases-loop-i
-decreases-loop-i g l = l.count - l.i

@@ -10,32 +10,37 @@ returns-then-back-eq-HALF_WRAP c =
     let s = distance c.args.arrival_time c.args.stamp in
     reckoned c.args.limit c.args.arrival_time c.args.stamp c.untimed.ensures (unclear c.args.limit c.args.arrival_time s (omega arith))
 
-pub returns-then-arrival_time-back : goal.returns-then-arrival_time-back
-returns-then-arrival_time-back c =
+pub returns-in_default : goal.returns-in_default
+returns-in_default c =
     let s = distance c.args.arrival_time c.args.stamp in
-    reckoned c.args.limit c.args.arrival_time c.args.stamp c.untimed-then-arrival_time-back.ensures
-    (before_zero c.args.limit c.args.arrival_time s (omega arith) (omega arith))
+    reckoned c.args.limit c.args.arrival_time c.args.stamp c.untimed-in_default.ensures
+    (before_zero c.args.limit c.args.arrival_time s (omega arith) (omega (arith, c.in_default.ensures)))
 
 pub returns-then-distance-lt-HALF_WRAP : goal.returns-then-distance-lt-HALF_WRAP
 returns-then-distance-lt-HALF_WRAP c =
     let s = distance c.args.arrival_time c.args.stamp in
-    reckoned c.args.limit c.args.arrival_time c.args.stamp refl
-    (late c.args.limit c.args.arrival_time s (omega arith) (omega arith) (omega arith) (omega arith))
+    rw c.in-Some.ensures.1
+    (reckoned c.args.limit c.args.arrival_time c.args.stamp refl
+    (late c.args.limit c.args.arrival_time s (omega arith) (omega arith) (omega arith) c.in-Some.ensures.0))
 
-pub returns-then-left-on : goal.returns-then-left-on
-returns-then-left-on c =
+pub returns-in_default-checked_add : goal.returns-in_default-checked_add
+returns-in_default-checked_add c =
     let s = distance c.args.arrival_time c.args.stamp in
-    reckoned c.args.limit c.args.arrival_time c.args.stamp c.untimed-then-left-on.ensures
-    (past_end c.args.limit c.args.arrival_time s (omega arith) (omega arith) (omega arith))
+    reckoned c.args.limit c.args.arrival_time c.args.stamp c.untimed-in_default-checked_add.ensures
+    (past_end c.args.limit c.args.arrival_time s (omega arith) (omega arith) (omega (arith, c.in_default-checked_add.ensures)))
 
 pub returns-then-on-limit : goal.returns-then-on-limit
 returns-then-on-limit c =
     let s = distance c.args.arrival_time c.args.stamp in
-    reckoned c.args.limit c.args.arrival_time c.args.stamp refl
-    (far c.args.limit c.args.arrival_time s (omega arith) (omega arith) (omega arith) (omega arith))
+    let fits = c.in-Some-checked_add.ensures in
+    rw fits.1
+    (reckoned c.args.limit c.args.arrival_time c.args.stamp refl
+    (far c.args.limit c.args.arrival_time s (omega arith) (omega arith) (omega (arith, fits.0)) (omega arith)))
 
-pub returns : goal.returns
-returns c =
+pub returns-else-on-limit : goal.returns-else-on-limit
+returns-else-on-limit c =
     let s = distance c.args.arrival_time c.args.stamp in
-    reckoned c.args.limit c.args.arrival_time c.args.stamp refl
-    (ahead c.args.limit c.args.arrival_time s (omega arith) (omega arith) (omega arith) (omega arith))
+    let fits = c.in-Some-checked_add.ensures in
+    rw fits.1
+    (reckoned c.args.limit c.args.arrival_time c.args.stamp refl
+    (ahead c.args.limit c.args.arrival_time s (omega arith) (omega arith) (omega (arith, fits.0)) (omega arith)))

@@ -24,7 +24,7 @@ returns-clause-put_in_turn c =
 pub returns-clause-sums_len_bound : goal.returns-clause-sums_len_bound
 unfolding sums_text
 returns-clause-sums_len_bound c =
-    let s = c.args.sums in
+    let s = c.args.sums.now in
     rw (ne_eqb _ _ c.if-sums-eq0.false)
     (summed_length (smallest s) (largest s) (sum s) s.summed c.put_difference_column-a.ensures.b_len_bound c.put_difference_column-b.ensures.b_len_bound
     c.put_difference_column-c.ensures.b_len_bound c.put_mean.ensures.count_len_bound)

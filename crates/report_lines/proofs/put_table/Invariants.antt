@@ -1,9 +1,6 @@
-use Rattle.std.proofs.Common.{◌-◌}
-use Rattle.report_lines.proofs.Tables.{Upto}
+use Rattle.report_lines.specs.Columns.{used_text, table_text}
+use Rattle.report_lines.proofs.Each.{Upto}
 use Rattle.report_lines.proofs.put_table.Given as goal
 
-abbrev pub invariant-loop-i : goal.invariant-loop-i
-invariant-loop-i l = Upto l.table l.i l.fn.out l.out l.at
-
-abbrev pub decreases-loop-i : goal.decreases-loop-i
-decreases-loop-i l = 64 - l.i
+abbrev pub invariant-loop-r : goal.invariant-loop-r
+invariant-loop-r l = Upto table_text used_text 403 l.table l.r-index l.fn.out 0 l.out l.at

@@ -1,4 +1,4 @@
-use Rattle.std.proofs.Common.{ℕ, ◌+◌, List, ◌∙◌, ap, arith, get_or, set}
+use Rattle.std.proofs.Common.{ℕ, ◌+◌, List, ◌∙◌, ap, get_or, set}
 use Rattle.text.proofs.Sets.{sets_more}
 use Rattle.text.proofs.copy.Goals as goal
 
@@ -6,4 +6,4 @@ pub loop-j-preserved : goal.loop-j-preserved
 loop-j-preserved c =
     let j = c.loop-j.j in
     let text = c.args.text.now in
-    (omega arith, ap (λ (x : List ℕ). set x (c.args.at + j) (get_or text j 0)) c.loop-j.invariant.1 ∙ sets_more c.args.out.now c.args.at text j c.loop-j-test.true)
+    ap (λ (x : List ℕ). set x (c.args.at + j) (get_or text j 0)) c.loop-j.invariant ∙ sets_more c.args.out.now c.args.at text j c.loop-j-test.true

@@ -4,7 +4,7 @@ use Rattle.turns.proofs.list_records.Goals as goal
 
 pub returns-then-not-roomy : goal.returns-then-not-roomy
 returns-then-not-roomy g c =
-    no_room c.args.input.now c.args.have c.least-end.result c.least-end.ensures c.args.shown c.args.out.now (sym c.roomy.ensures ∙ c.if-not-roomy.true) c.start.ensures
+    no_room c.args.input.now c.args.have c.min-end.result c.min-end.ensures c.args.shown c.args.out.now (sym c.roomy.ensures ∙ c.if-not-roomy.true) c.start.ensures
 
 pub returns : goal.returns
-returns g c = as_read c.args.input.now c.args.have c.least-end.result c.least-end.ensures c.all_turns.ensures
+returns g c = as_read c.args.input.now c.args.have c.min-end.result c.min-end.ensures c.all_turns.ensures

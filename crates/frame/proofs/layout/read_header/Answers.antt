@@ -1,6 +1,0 @@
-use Rattle.frame.specs.Layout.{header_of}
-use Rattle.frame.proofs.layout.read_header.Goals as goal
-
-pub returns : goal.returns
-unfolding header_of
-returns c = cc
