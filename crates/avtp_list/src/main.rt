@@ -101,9 +101,7 @@ impl Visit for List {
         if self.say_name {
             voice.say(name, b"listing");
         }
-        if let Some(format) = formats::recognise(&input[..have]) {
-            voice.say(name, formats::said(format));
-        }
+        formats::hint_by(voice, name, formats::recognise(&input[..have]));
         let mut out = [0u8; 65536];
         write_start(rt, voice, &mut out)?;
         let mut writer = Noting::new(rt.stdout());

@@ -84,9 +84,7 @@ impl Visit for Report {
         let Some(have) = program::first(voice, &mut reader, &mut input, name) else {
             return Ok(());
         };
-        if let Some(format) = formats::recognise(&input[..have]) {
-            voice.say(name, formats::said(format));
-        }
+        formats::hint_by(voice, name, formats::recognise(&input[..have]));
         let mut writer = Noting::new(rt.stdout());
         let mut out = [0u8; 65536];
         let reported = report_records(rt, &mut reader, &mut writer, &mut input, have, &mut out);

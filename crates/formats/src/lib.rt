@@ -5,6 +5,7 @@ ghost use Rattle.std.specs.Prelude.{◌≡◌};
 ghost use Rattle.text.specs.InTurn.{PutInTurn};
 ghost use Rattle.formats.specs.Formats.{start_of, said_of, hint_of};
 
+use messages::Voice;
 use std::io::Write;
 
 #[derive(Clone, Copy, PartialEq, Eq)]
@@ -57,4 +58,20 @@ pub fn hint<E: Write>(
         Some(format) => messages::say(errors, room, program, name, said(format)),
         None => 0,
     }
+}
+
+// The same by a voice, as `Voice::say` does.
+#[tactic(auto, using(text::proofs::Puts::none_put))]
+pub fn hint_by<E: Write, const N: usize>(
+    voice: &mut Voice<'_, E, N>,
+    name: &[u8],
+    format: Option<Format>,
+) -> usize
+    ensures said { PutInTurn voice.old.room 0 (hint_of voice.old.program.now name.now format) voice.new.room result }
+    ensures program { voice.new.program ≡ voice.old.program }
+{
+    let Some(format) = format else {
+        return 0;
+    };
+    voice.say(name, said(format))
 }

@@ -51,7 +51,9 @@ fn standard_input<V: Visit>(visitor: &V, rt: HostRuntime, voice: &mut Speaker) -
     visitor.visit(rt, voice, rt.stdin(), b"standard input")
 }
 
-// Goes through the capture that the argument at a place names. One that cannot be opened stops nothing.
+// Goes through the capture that the argument at a place names. One that cannot be opened stops nothing. What a visit keeps on the stack is
+// large, and a run that reads standard input alone does without that of this call.
+#[inline(never)]
 pub fn argument<V: Visit>(
     visitor: &V,
     rt: HostRuntime,
@@ -84,37 +86,38 @@ fn unnamed<V: Visit>(visitor: &V, rt: HostRuntime, voice: &mut Speaker, usage: &
     };
 }
 
-fn run<P: Visit + Program>(
-    program: &P,
-    rt: HostRuntime,
-    voice: &mut Speaker,
-    request: Request,
-    usage: &[u8],
-) {
+// The voice has a room of its own, which only a run over captures needs. None of these three is inlined: a room of one then stands on no stack of
+// another.
+#[inline(never)]
+fn run<P: Visit + Program>(program: &P, rt: HostRuntime, texts: Texts, request: Request) {
+    let mut voice = Voice::new(rt.stderr(), texts.name);
     match request.name_count() {
-        0 => unnamed(program, rt, voice, usage),
-        names => program.visit_named(rt, voice, request, names),
+        0 => unnamed(program, rt, &mut voice, texts.usage),
+        names => program.visit_named(rt, &mut voice, request, names),
     }
+}
+
+#[inline(never)]
+fn show(rt: HostRuntime, texts: Texts, text: &[u8]) {
+    let _ = messages::write(&mut rt.stdout(), &mut rt.stderr(), texts.name, text);
+}
+
+#[inline(never)]
+fn refuse(rt: HostRuntime, texts: Texts, at: usize) {
+    let mut room = [0u8; 65536];
+    options::refuse(&rt, &mut rt.stderr(), &mut room, texts.name, at);
 }
 
 // Does what the arguments ask for, and answers what that is.
 pub fn start<P: Visit + Program>(program: &P, rt: HostRuntime, texts: Texts) -> Request
     ensures { Requested result }
 {
-    let mut voice = Voice::new(rt.stderr(), texts.name);
     let request = options::read_request(&rt);
     match request.first {
-        Some((_, Word::Help)) => {
-            let _ = voice.write(&mut rt.stdout(), texts.help);
-        }
-        Some((_, Word::Version)) => {
-            let _ = voice.write(&mut rt.stdout(), texts.version);
-        }
-        Some((at, Word::Unknown)) => {
-            let mut room = [0u8; 65536];
-            options::refuse(&rt, &mut rt.stderr(), &mut room, texts.name, at);
-        }
-        Some((_, Word::Rest)) | None => run(program, rt, &mut voice, request, texts.usage),
+        Some((_, Word::Help)) => show(rt, texts, texts.help),
+        Some((_, Word::Version)) => show(rt, texts, texts.version),
+        Some((at, Word::Unknown)) => refuse(rt, texts, at),
+        Some((_, Word::Rest)) | None => run(program, rt, texts, request),
     }
     request
 }

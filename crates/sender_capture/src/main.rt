@@ -62,8 +62,8 @@ fn send(rt: HostRuntime, sender: &mut Sender, time: u32, blocks: usize) -> io::R
     // The record's length counts the kind and the arrival time too.
     let record_length = (frame.len() + 10) as u16;
     let arrival_time = u64::from(time) / 2;
-    rt.write_all(&record_length.to_le_bytes())?;
-    rt.write_all(&1u16.to_le_bytes())?;
+    let [low, high] = record_length.to_le_bytes();
+    rt.write_all(&[low, high, 1, 0])?;
     rt.write_all(&arrival_time.to_le_bytes())?;
     rt.write_all(frame)
 }

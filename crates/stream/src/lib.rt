@@ -162,8 +162,9 @@ impl Record {
         self.seen && self.dbc_expected
     }
 
-    // Judged on the record as it stood. Two frames without a CIP header are of one format. On the first frame after admission no flag is raised.
-    #[tactic(auto, unfolding(crate::specs::Records::flags_of, crate::specs::Records::block_flag, crate::specs::Records::format_flag, crate::specs::Records::format_change, crate::specs::Records::format_of))]
+    // Judged on the record as it stood, and on the format that is kept after the frame: without a CIP header that is the one from before, and
+    // only the tag may differ. On the first frame after admission no flag is raised.
+    #[tactic(auto, using(crate::proofs::Formats::flag_by_kept), unfolding(crate::specs::Records::flags_of, crate::specs::Records::block_flag, crate::specs::Records::format_flag, crate::specs::Records::format_change, crate::specs::Records::format_of, crate::specs::Records::kept_format))]
     fn flags(&self, fields: Fields) -> Flags
         ensures { result ≡ flags_of self.now fields }
     {
@@ -173,10 +174,15 @@ impl Record {
         if !self.seen {
             return Flags::default();
         }
+        let kept = if tag == 1 {
+            Format::from(cip)
+        } else {
+            self.format
+        };
         Flags {
             sequence: sequence_break(self.sequence, avtp.sequence),
             block: (tag == 1) & self.dbc_expected & (cip.dbc != self.next_dbc),
-            format: (tag != self.tag) | (tag == 1) & (Format::from(cip) != self.format),
+            format: (tag != self.tag) | (kept != self.format),
             mr: avtp.mr != self.mr,
         }
     }

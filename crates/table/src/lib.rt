@@ -12,7 +12,7 @@ ghost use Rattle.table.specs.Private.{reading_for, served, judged};
 
 use frame::layout::Fields;
 use refusal::Refusal;
-use stream::{Judged, Record};
+use stream::{Judged, Record, Stepped};
 
 // The record is in use and holds the id. Most records hold another, so that is asked first.
 fn holds(r: &Record, id: u64) -> bool
@@ -80,7 +80,17 @@ fn serve(r: &mut Record, fields: Fields, frame: &[u8], arrival_time: u64) -> Jud
     }
 }
 
-// A frame for a record that is lent alone, as a table of one.
+// The same for a record by value.
+#[tactic(auto, unfolding(crate::specs::Private::served))]
+fn serve_alone(last: Record, fields: Fields, frame: &[u8], arrival_time: u64) -> Stepped
+    ensures { result ≡ served last fields frame.now arrival_time }
+{
+    let header = fields.header.stream;
+    let payload = frame::data(frame, header.tag, header.data_length);
+    stream::step(last, fields, payload, arrival_time)
+}
+
+// A frame for a record that is lent alone, as a table of one: thin over the step by value, and what that gives is stored.
 pub fn receive_record(lent: &mut Record, frame: &[u8], arrival_time: u64) -> Result<Judged, Refusal>
     ensures { ReceivesAlone lent.old frame.now arrival_time result lent.new }
 {
@@ -88,7 +98,13 @@ pub fn receive_record(lent: &mut Record, frame: &[u8], arrival_time: u64) -> Res
     if !holds(lent, fields.header.stream.id) {
         return Err(Refusal::NotAdmitted);
     }
-    Ok(serve(lent, fields, frame, arrival_time))
+    let stepped = serve_alone(*lent, fields, frame, arrival_time);
+    *lent = stepped.after;
+    Ok(Judged {
+        fields,
+        flags: stepped.flags,
+        timing: stepped.timing,
+    })
 }
 
 // A frame for a table: one search, and the one record of its stream is read and stored.

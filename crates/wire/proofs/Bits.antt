@@ -1,5 +1,5 @@
 -- Fields taken out by a shift and a mask, and put together by a shift and an or, at every shift and width. Assumes nothing.
-use Prim.Native.Nat.{ℕ, suc, ◌+◌, ◌*◌, ◌/◌, ◌%◌, ◌^◌, ◌<◌}
+use Prim.Native.Nat.{ℕ, suc, ◌+◌, ◌-◌, ◌*◌, ◌/◌, ◌%◌, ◌^◌, ◌<◌}
 use mathlib.Core.Path.{◌≡◌, refl, sym, ap, ◌∙◌}
 use mathlib.Core.List.{List, [], ◌∷◌}
 use native.Mathlib.Nat.{mod-eq_of_lt, mod-one, div-one}
@@ -14,7 +14,11 @@ use Rattle.wire.specs.Bits.{bits, width, unpack, pack, Fit}
 pub joined : (hi k w : ℕ) {lo : ℕ} → lo < 2 ^ k → hi * 2 ^ k < 2 ^ w → bit_or ((hi * 2 ^ k) % 2 ^ w) lo ≡ hi * 2 ^ k + lo
 joined hi k w {lo} h fits = rw (mod-eq_of_lt fits) (or_shifted hi k lo h)
 
--- the masks of the frame's fields, by which `simp masks` rewrites
+-- `(n >> s) & mask` with a mask of w ones is the field of w bits above the lowest s
+pub masked : (s w n : ℕ) → bit_and (n / 2 ^ s) (2 ^ w - 1) ≡ bits s w n
+masked s w n = and_mask (n / 2 ^ s) w
+
+-- the same at the masks of the frame's fields, by which `simp masks` rewrites
 pub mask1 : (n : ℕ) → bit_and n 0x1 ≡ n % 2
 mask1 n = and_mask n 1
 

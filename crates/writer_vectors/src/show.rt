@@ -17,7 +17,8 @@ pub(crate) fn blank() -> [u8; 1600]
 
 // Are the bytes of the output from place `from` on as they were?
 pub(crate) fn untouched(out: &[u8], from: usize) -> bool {
-    out.iter().skip(from).all(|byte| *byte == BLANK)
+    out.get(from..)
+        .is_some_and(|behind| blank().starts_with(behind))
 }
 
 // Where the payload starts.
@@ -34,7 +35,12 @@ pub(crate) fn verdict(same: bool) -> &'static str {
 // The bytes in front of the payload.
 fn header(rt: HostRuntime, out: &[u8], start: usize) -> io::Result<()> {
     print!(rt; " header ")?;
-    for byte in out.iter().take(start) {
+    let header = &out[..start.min(out.len())];
+    let (words, rest) = header.as_chunks::<8>();
+    for word in words {
+        print!(rt; "{:016x}", u64::from_be_bytes(*word))?;
+    }
+    for byte in rest {
         print!(rt; "{byte:02x}")?;
     }
     Ok(())

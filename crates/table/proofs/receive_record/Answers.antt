@@ -16,6 +16,6 @@ returns-then-not-holds c =
 
 pub returns : goal.returns
 returns c =
-    rw (c.serve.ensures.answer, c.serve.ensures.after)
+    rw c.serve_alone-stepped.ensures
     (alone_served c.args.lent.now c.args.frame.now c.args.arrival_time c.in_ok-fields.fields c.in_ok-fields.ensures
     (sym c.holds.ensures ∙ c.if-not-holds.false))
