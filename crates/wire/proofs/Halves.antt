@@ -1,5 +1,5 @@
--- A number of m + n bytes is put together from one of m and one of n by a shift and an or, at every width and in either order of bytes. The
--- readers go by std's numbers out of bytes; this is what their words say of any two halves. Assumes nothing.
+-- A number of m + n bytes is put together from one of m and one of n by a shift and an or, at every width and in either order of bytes: the
+-- readers of four bytes and more go by it. Assumes nothing.
 use Prim.Native.Nat.{ℕ, ◌+◌, ◌*◌, ◌%◌, ◌^◌, ◌<◌, ◌≤◌}
 use mathlib.Core.Path.{◌≡◌, refl, ◌∙◌}
 use mathlib.Core.List.{List, [], ◌∷◌, ◌++◌, reverse, reverse-append}
@@ -9,7 +9,7 @@ use lib.Bits.{bit_or}
 use lib.ListN.{length, take, drop, length-append, length-drop, length-reverse}
 use lib.Pow.{pow-add, pow_mono, shl_lt}
 use lib.Seq.{length-take-le, take-add, drop-drop}
-use Rattle.wire.specs.Numbers.{octets, number, part, spelled_or_0, number_or_0, little_endian, little_endian_or_0}
+use Rattle.wire.specs.Numbers.{number, part, spelled_or_0, number_or_0, little_endian, little_endian_or_0}
 use Rattle.wire.proofs.Bits.{joined}
 use Rattle.wire.proofs.Numbers.{width_octets, there}
 

@@ -29,21 +29,22 @@ pub fn be16(s: &[u8], at: usize) -> u16
     u16::from_be_bytes(array(s, at))
 }
 
+// A number of four bytes and more is two of fewer, joined: one fact over the width and both orders of bytes (proofs/Halves.antt).
 pub fn be32(s: &[u8], at: usize) -> u32
     ensures { result ≡ number_or_0 at 4 s.now }
 {
-    u32::from_be_bytes(array(s, at))
+    let bytes = array::<4>(s, at);
+    ((be16(&bytes, 0) as u32) << 16) | (be16(&bytes, 2) as u32)
 }
 
 pub fn be48(s: &[u8], at: usize) -> u64
     ensures { result ≡ number_or_0 at 6 s.now }
 {
-    let [a, b, c, d, e, f] = array::<6>(s, at);
-    u64::from_be_bytes([0, 0, a, b, c, d, e, f])
+    let bytes = array::<6>(s, at);
+    ((be16(&bytes, 0) as u64) << 32) | (be32(&bytes, 2) as u64)
 }
 
 // Stream ids are read here, those of frames and those of captures: two halves of four bytes, joined.
-#[tactic(auto, using(crate::proofs::Halves::beside))]
 pub fn be64(s: &[u8], at: usize) -> u64
     ensures { result ≡ number_or_0 at 8 s.now }
 {
@@ -63,13 +64,15 @@ pub fn le16(s: &[u8], at: usize) -> u16
 pub fn le32(s: &[u8], at: usize) -> u32
     ensures { result ≡ little_endian_or_0 at 4 s.now }
 {
-    u32::from_le_bytes(array(s, at))
+    let bytes = array::<4>(s, at);
+    ((le16(&bytes, 2) as u32) << 16) | (le16(&bytes, 0) as u32)
 }
 
 pub fn le64(s: &[u8], at: usize) -> u64
     ensures { result ≡ little_endian_or_0 at 8 s.now }
 {
-    u64::from_le_bytes(array(s, at))
+    let bytes = array::<8>(s, at);
+    ((le32(&bytes, 4) as u64) << 32) | (le32(&bytes, 0) as u64)
 }
 
 // Reading and writing undo each other: the writer's and the reader's claims rest on this.

@@ -1,0 +1,11 @@
+use Rattle.std.proofs.Common.{refl, ◌∙◌, arith}
+use lib.Dec.{lit≤}
+use Rattle.wire.specs.Numbers.{number}
+use Rattle.wire.proofs.Halves.{beside}
+use Rattle.wire.proofs.Parts.{taken_spells}
+use Rattle.wire.proofs.be32.Goals as goal
+
+pub returns : goal.returns
+returns c =
+    beside 0 2 2 32 c.array-bytes.result (omega arith) (lit≤ tt) c.be16.ensures c.be16-2.ensures (omega arith) (omega arith)
+    ∙ taken_spells number c.args.at 4 c.args.s.now refl (omega arith) c.array-bytes.ensures
